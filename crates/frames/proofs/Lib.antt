@@ -1,0 +1,4 @@
+pub mod Numbers
+pub mod Hexes
+pub mod Samples
+pub mod SixteenBits
