@@ -1,0 +1,43 @@
+-- The laws of each measure, of the definitions. Assumes nothing.
+use mathlib.Core.Path.{_≡_, refl, sym, ap, _∙_}
+use mathlib.Core.List.{List, [], _∷_}
+use Prim.Native.Nat.{ℕ}
+use native.Mathlib.Omega.{arith}
+use Rattle.measures.specs.Measured.{measured}
+use Rattle.measures.specs.Extents.{no-extent, wider}
+use Rattle.measures.specs.Energies.{energy-of, added}
+use Rattle.measures.specs.ClipRuns.{run-of, no-run, bridged}
+use Rattle.measures.proofs.Same.{same-extent, same-energy}
+use Rattle.measures.proofs.Ends.{min-assoc, max-assoc, min-top-left, min-top-right, max-end-left, max-end-right}
+use Rattle.measures.proofs.Bridges.{same-clip-run, capped-assoc, empty-left, empty-right}
+
+pub record Laws {V : Type 0} (op : V → V → V) (neutral : V) : Type 0 where
+  pub left : (x : V) → op neutral x ≡ x
+  pub right : (x : V) → op x neutral ≡ x
+  pub assoc : (x y z : V) → op (op x y) z ≡ op x (op y z)
+
+pub extent-laws : Laws wider no-extent
+extent-laws = record {
+  left = λ x. same-extent _ x (min-top-left (x .low) (x .lows)) (max-end-left (x .high) (x .highs));
+  right = λ x. same-extent _ x (min-top-right (x .low) (x .lows)) (max-end-right (x .high) (x .highs));
+  assoc = λ x y z. same-extent _ _ (min-assoc (x .low) (y .low) (z .low)) (max-assoc (x .high) (y .high) (z .high));
+}
+
+pub energy-laws : Laws added (energy-of 0)
+energy-laws = record {
+  left = λ x. same-energy _ x (omega (arith, x .stopped));
+  right = λ x. same-energy _ x (omega (arith, x .stopped));
+  assoc = λ x y z. same-energy _ _ (omega arith);
+}
+
+pub clip-run-laws : Laws bridged no-run
+clip-run-laws = record {
+  left = λ x. same-clip-run _ x (empty-left (run-of x) (x .sound));
+  right = λ x. same-clip-run _ x (empty-right (run-of x) (x .sound));
+  assoc = λ x y z. same-clip-run _ _ (capped-assoc (run-of x) (run-of y) (run-of z) (x .sound) (y .sound) (z .sound));
+}
+
+-- a part of a measure that is joined by itself is the measure of the parts
+pub measured-part : {K V W : Type 0} (f : V → W) (worth : K → V) (op : V → V → V) (neutral : V) (op′ : W → W → W) → ((x y : V) → f (op x y) ≡ op′ (f x) (f y)) → (xs : List K) → f (measured worth op neutral xs) ≡ measured (λ x. f (worth x)) op′ (f neutral) xs
+measured-part f worth op neutral op′ h [] = refl
+measured-part f worth op neutral op′ h (x ∷ xs) = h (worth x) (measured worth op neutral xs) ∙ ap (op′ (f (worth x))) (measured-part f worth op neutral op′ h xs)

@@ -1,0 +1,6 @@
+use borrow.Author.Needs.{needs}
+use Rattle.measures.proofs.Same.{same-energy}
+use Rattle.measures.proofs.energy.measure.EnergyMeasure.none.Needs as need
+
+pub returns : need.returns
+returns g c = search (needs, same-energy)

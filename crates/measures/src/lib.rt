@@ -1,0 +1,19 @@
+// Measures of sound: a value of each frame, joined in order.
+mod clip_run;
+mod energy;
+mod extent;
+mod fold;
+mod meanings;
+mod measure;
+
+pub use clip_run::ClipRun;
+pub use clip_run::measure::ClipRunMeasure;
+pub use energy::Energy;
+pub use energy::measure::EnergyMeasure;
+pub use extent::Extent;
+pub use extent::measure::ExtentMeasure;
+pub use fold::measure_of;
+pub use meanings::clip_run_of;
+pub use meanings::energy_of;
+pub use meanings::extent_of;
+pub use measure::Measure;
