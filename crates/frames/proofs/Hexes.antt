@@ -11,7 +11,7 @@ use lib.ListN.{length, getD, drop, set}
 use lib.Seq.{drop-cons}
 use Rattle.std.specs.declared.option.Option.{Option}
 use Rattle.std.specs.declared.option.Option.the-variants.{Some, None}
-use Rattle.std.proofs.shelf.Lists.{append-nil, drop-set, length-push}
+use Rattle.std.proofs.shelf.Lists.{append-nil, drop-set}
 use Rattle.std.proofs.shelf.Bits.{div-below}
 use Rattle.std.proofs.shelf.Ways.{tells}
 use Rattle.frames.specs.Hex.{hex-char, hex-digit, hexed, onward, hex-number}
@@ -23,10 +23,6 @@ char-read d small = grind (arith, tells)
 -- what a byte is, that is read as a digit
 pub digit-spelled : (b d : ℕ) → hex-digit b ≡ Some d → (d < 16) × (hex-char d ≡ b)
 digit-spelled b d e = (grind (arith, tells), grind (arith, tells))
-
-pub length-hexed : (k n : ℕ) → length (hexed k n) ≡ k
-length-hexed zero n = refl
-length-hexed (suc k) n = length-push (hexed k (n / 16)) (hex-char (n % 16)) ∙ ap (λ m. m + 1) (length-hexed k (n / 16)) ∙ add-one k
 
 pub hexed-more : (k n d : ℕ) → d < 16 → hexed (suc k) (n * 16 + d) ≡ hexed k n ++ (hex-char d ∷ [])
 hexed-more k n d small =

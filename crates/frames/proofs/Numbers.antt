@@ -1,8 +1,8 @@
 -- Digits and two's complement are inverse to what reads them, at every width. Assumes nothing.
-use mathlib.Core.Path.{_≡_, refl, sym, ap, subst, _∙_}
+use mathlib.Core.Path.{_≡_, refl, ap, _∙_}
 use mathlib.Core.List.{List, [], _∷_}
 use Prim.Native.Nat.{ℕ, zero, suc, _+_, _-_, _*_, _/_, _%_, _^_, _<_}
-use native.Mathlib.Nat.{pow-zero, pow-suc, div-add-mod', mod-lt, mod-eq-of-lt}
+use native.Mathlib.Nat.{pow-zero, pow-suc, div-add-mod', mod-eq-of-lt}
 use native.Mathlib.Omega.{arith}
 use lib.Arith.{digits-lt, digits-div, digits-mod}
 use lib.Dec.{ltb}
@@ -14,14 +14,6 @@ use Rattle.std.proofs.shelf.Tests.{cond-true, cond-false, cond-both, lt-ltb, le
 use Rattle.std.proofs.shelf.Bits.{div-below}
 use Rattle.frames.specs.Twos.{unsigned, signed}
 use Rattle.frames.specs.Digits.{digits, number}
-
-pub length-digits : (b k n : ℕ) → length (digits b k n) ≡ k
-length-digits b zero n = refl
-length-digits b (suc k) n = ap suc (length-digits b k (n / b))
-
-pub all-digits : (b k n : ℕ) → 0 < b → All (λ d. d < b) (digits b k n)
-all-digits b zero n p = tt
-all-digits b (suc k) n p = (mod-lt n p, all-digits b k (n / b) p)
 
 pub number-digits : (b k n : ℕ) → 0 < b → n < b ^ k → number b (digits b k n) ≡ n
 number-digits b zero n p small = omega (arith, pow-zero b)

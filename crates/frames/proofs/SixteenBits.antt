@@ -2,7 +2,7 @@
 use mathlib.Core.Path.{_≡_, refl, sym, subst, ap, _∙_}
 use mathlib.Core.Bool.{Bool, true, false, cond}
 use mathlib.Core.List.{List, [], _∷_, _++_}
-use Prim.Native.Nat.{ℕ, suc, _+_, _-_, _*_, _%_, _≤_, _<_, _^_}
+use Prim.Native.Nat.{ℕ, suc, _+_, _-_, _*_, _≤_, _<_, _^_}
 use native.Mathlib.Bridge.{le-prop}
 use native.Mathlib.Omega.{arith}
 use lib.Dec.{eqb, ltb}
@@ -17,9 +17,9 @@ use Rattle.std.specs.declared.option.Option.{Option}
 use Rattle.std.specs.declared.option.Option.the-variants.{Some, None}
 use Rattle.std.proofs.shelf.Elements.{all-take, all-drop}
 use Rattle.std.proofs.shelf.Tests.{cond-true, eq-eqb, eqb-true}
-use Rattle.frames.specs.Twos.{unsigned, signed}
+use Rattle.frames.specs.Twos.{unsigned}
 use Rattle.frames.specs.Digits.{number}
-use Rattle.frames.specs.Hex.{hexed, hex-number}
+use Rattle.frames.specs.Hex.{hex-number}
 use Rattle.frames.specs.Samples.{square}
 use Rattle.frames.specs.Monos.{mono-of, mono-of-bits, mono-bytes, mono-from, mono-line, mono-parsed}
 use Rattle.frames.specs.Stereos.{stereo-of, both, stereo-bytes, stereo-from, stereo-line, stereo-parsed}

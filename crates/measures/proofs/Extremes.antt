@@ -1,11 +1,10 @@
 -- The extent of some frames bounds each of their numbers and reaches one. Assumes nothing.
 use mathlib.Core.Path.{_≡_, refl, sym, ap, subst, _∙_}
 use mathlib.Core.Logic.{_⊎_, inl, inr, ⊎-elim}
-use mathlib.Core.List.{List, [], _∷_, _++_}
-use Prim.Native.Nat.{ℕ, _+_, _^_, _<_}
+use mathlib.Core.List.{List, [], _∷_}
+use Prim.Native.Nat.{_^_, _<_}
 use native.Mathlib.Omega.{arith}
 use lib.IntN.{ℤ, pos, negsuc}
-use lib.ListN.{length}
 use lib.Signed.{mag, ltZ, _≤ℤ_}
 use Rattle.std.specs.Numbers.{maxZ, minZ}
 use Rattle.std.specs.shelf.Lists.{All}
@@ -13,7 +12,7 @@ use Rattle.std.proofs.shelf.Signed.{ints, clamps}
 use Rattle.std.proofs.shelf.Tests.{cond-both}
 use Rattle.measures.specs.Measured.{measured}
 use Rattle.measures.specs.Extents.{frame-extent, no-extent, wider}
-use Rattle.measures.specs.Meanings.{Among, Extreme, Reaches}
+use Rattle.measures.specs.Meanings.{Extreme, Reaches}
 use Rattle.measures.specs.declared.extent.Extent.{Extent}
 use Rattle.measures.proofs.Ends.{min-top-right, max-end-right}
 

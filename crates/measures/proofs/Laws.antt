@@ -1,9 +1,6 @@
 -- The laws of each measure, of the definitions. Assumes nothing.
-use mathlib.Core.Path.{_≡_, refl, sym, ap, _∙_}
-use mathlib.Core.List.{List, [], _∷_}
-use Prim.Native.Nat.{ℕ}
+use mathlib.Core.Path.{_≡_}
 use native.Mathlib.Omega.{arith}
-use Rattle.measures.specs.Measured.{measured}
 use Rattle.measures.specs.Extents.{no-extent, wider}
 use Rattle.measures.specs.Energies.{energy-of, added}
 use Rattle.measures.specs.ClipRuns.{run-of, no-run, bridged}
@@ -36,8 +33,3 @@ clip-run-laws = record {
   right = λ x. same-clip-run _ x (empty-right (run-of x) (x .sound));
   assoc = λ x y z. same-clip-run _ _ (capped-assoc (run-of x) (run-of y) (run-of z) (x .sound) (y .sound) (z .sound));
 }
-
--- a part of a measure that is joined by itself is the measure of the parts
-pub measured-part : {K V W : Type 0} (f : V → W) (worth : K → V) (op : V → V → V) (neutral : V) (op′ : W → W → W) → ((x y : V) → f (op x y) ≡ op′ (f x) (f y)) → (xs : List K) → f (measured worth op neutral xs) ≡ measured (λ x. f (worth x)) op′ (f neutral) xs
-measured-part f worth op neutral op′ h [] = refl
-measured-part f worth op neutral op′ h (x ∷ xs) = h (worth x) (measured worth op neutral xs) ∙ ap (op′ (f (worth x))) (measured-part f worth op neutral op′ h xs)

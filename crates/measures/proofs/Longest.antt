@@ -3,16 +3,16 @@ use mathlib.Core.Path.{_≡_, refl, sym, ap, subst, _∙_}
 use mathlib.Core.Bool.{Bool, true, false, cond}
 use mathlib.Core.Logic.{⊎-elim}
 use mathlib.Core.List.{List, [], _∷_, _++_}
-use Prim.Native.Nat.{ℕ, suc, _+_, _^_, _≤_, _<_, max}
+use Prim.Native.Nat.{ℕ, _+_, _^_, _≤_, max}
 use native.Mathlib.Omega.{arith}
 use lib.Dec.{eqb}
 use lib.ListN.{length, length-append}
 use Rattle.std.specs.shelf.Lists.{All}
-use Rattle.std.proofs.shelf.Tests.{cond-true, cond-false, cond-both, cases-lt, eq-eqb, eqb-true, eqb-false}
+use Rattle.std.proofs.shelf.Tests.{cond-true, cond-both, cases-lt, eq-eqb, eqb-true}
 use Rattle.measures.specs.Measured.{measured}
-use Rattle.measures.specs.Runs.{Run, run, after, of-frame}
+use Rattle.measures.specs.Runs.{Run, after, of-frame}
 use Rattle.measures.specs.ClipRuns.{run-of, frame-run, no-run, bridged}
-use Rattle.measures.specs.Meanings.{Begins, Ends, Stands, Longest, Tells}
+use Rattle.measures.specs.Meanings.{Begins, Ends, Stands, Tells}
 use Rattle.measures.proofs.Bridges.{capped-in}
 
 module _ {K : Type 0} where

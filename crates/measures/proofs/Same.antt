@@ -1,5 +1,5 @@
 -- A measure's value is known by its numbers. Assumes nothing.
-use mathlib.Core.Path.{_≡_, subst, ap, refl, _∙_}
+use mathlib.Core.Path.{_≡_, subst, ap, _∙_}
 use Prim.Native.Nat.{ℕ, _<_, _≤_, _^_}
 use native.Mathlib.Bridge.{le-prop}
 use lib.IntN.{ℤ}

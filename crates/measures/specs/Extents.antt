@@ -1,5 +1,5 @@
 -- The extent of frames: the smallest and the largest of their numbers, in 32 bits.
-use Prim.Native.Nat.{ℕ, _^_, _<_}
+use Prim.Native.Nat.{_^_, _<_}
 use lib.Dec.{lit<}
 use lib.IntN.{ℤ, pos, negsuc}
 use lib.Signed.{mag}

@@ -1,6 +1,5 @@
 // The measure of a list of frames, for every measure and every kind of frame.
 ghost use mathlib.Core.Path.{_≡_};
-ghost use mathlib.Core.List.{List, _++_};
 ghost use Rattle.measures.specs.Measured.{measured, Parts-joined};
 use crate::measure::Measure;
 use frames::Frame;

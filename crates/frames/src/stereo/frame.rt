@@ -1,5 +1,4 @@
 // Stereo frames as a kind of frame: the left sample and then the right one, in bytes and in text.
-ghost use mathlib.Core.Path.{_≡_};
 ghost use Rattle.frames.specs.Stereos.{stereo-bytes, stereo-from, stereo-line, stereo-parsed, stereo-least, stereo-greatest, stereo-narrow, stereo-power, stereo-clips};
 use crate::frame::Frame;
 use crate::frame::TooShort;

@@ -1,5 +1,4 @@
 // The energy as a measure: joining adds, up to the stop.
-ghost use mathlib.Core.Path.{_≡_};
 ghost use Rattle.measures.specs.Energies.{energy-of, added};
 use crate::energy::Energy;
 use crate::measure::Measure;

@@ -1,5 +1,4 @@
 // The extent as a measure: joining takes the smaller low and the larger high.
-ghost use mathlib.Core.Path.{_≡_};
 ghost use Rattle.measures.specs.Extents.{frame-extent, no-extent, wider};
 use crate::extent::Extent;
 use crate::measure::Measure;

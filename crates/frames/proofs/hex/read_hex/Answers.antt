@@ -1,11 +1,10 @@
-use mathlib.Core.Path.{_≡_, sym, ap, subst, _∙_}
+use mathlib.Core.Path.{sym, ap, subst, _∙_}
 use Prim.Native.Nat.{ℕ, _+_, _*_, _^_, _<_}
 use native.Mathlib.Omega.{arith}
-use lib.ListN.{length, drop, getD}
+use lib.ListN.{drop, getD}
 use Rattle.std.specs.declared.option.Option.{Option}
-use Rattle.std.specs.declared.option.Option.the-variants.{Some}
 use Rattle.std.proofs.shelf.Lists.{drop-all}
-use Rattle.frames.specs.Hex.{onward, hex-digit, hex-number}
+use Rattle.frames.specs.Hex.{onward, hex-number}
 use Rattle.frames.proofs.Hexes.{digit-spelled, read-on, few-digits, below-more}
 use Rattle.frames.proofs.hex.read_hex.Needs as need
 
