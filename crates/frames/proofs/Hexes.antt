@@ -62,10 +62,11 @@ hex-spelled k n m (b ∷ bs) small e =
     let spelled = digit-spelled b d (got .1) in
     let below : n * 16 + d < 16 ^ suc k = rw pow-suc (digits-lt small (spelled .0)) in
     let rest = hex-spelled (suc k) (n * 16 + d) m bs below (got .2) in
-    let turn : suc k + length bs ≡ k + suc (length bs) = omega arith in
-    (subst (λ j. m < 16 ^ j) turn (rest .0),
-     ap (λ j. hexed j m) (sym turn) ∙ rest .1 ∙ ap (λ xs. xs ++ bs) (hexed-more k n d (spelled .0))
-     ∙ append-assoc (hexed k n) (hex-char d ∷ []) bs ∙ ap (λ c. hexed k n ++ (c ∷ bs)) (spelled .1))
+    let turn : suc k + length bs ≡ k + suc (length bs) = omega arith in (
+      subst (λ j. m < 16 ^ j) turn (rest .0),
+      ap (λ j. hexed j m) (sym turn) ∙ rest .1 ∙ ap (λ xs. xs ++ bs) (hexed-more k n d (spelled .0))
+          ∙ append-assoc (hexed k n) (hex-char d ∷ []) bs ∙ ap (λ c. hexed k n ++ (c ∷ bs)) (spelled .1),
+    )
 
 -- a text that is read is how the number read is written
 pub read-spelled : (text : List ℕ) (m : ℕ) → hex-number 0 text ≡ Some m → (m < 16 ^ length text) × (hexed (length text) m ≡ text)

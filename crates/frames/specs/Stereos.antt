@@ -45,9 +45,10 @@ stereo-greatest x = maxZ (x .left .value) (x .right .value)
 pub stereo-narrow : (x : Stereo) → (mag (stereo-least x) < 2 ^ 31) × (mag (stereo-greatest x) < 2 ^ 31)
 stereo-narrow x =
     let l = x .left .value in
-    let r = x .right .value in
-    (cond-both (ltZ r l) r l (λ z. mag z < 2 ^ 31) (λ _. mono-narrow (x .right)) (λ _. mono-narrow (x .left)),
-     cond-both (ltZ r l) l r (λ z. mag z < 2 ^ 31) (λ _. mono-narrow (x .left)) (λ _. mono-narrow (x .right)))
+    let r = x .right .value in (
+      cond-both (ltZ r l) r l (λ z. mag z < 2 ^ 31) (λ _. mono-narrow (x .right)) (λ _. mono-narrow (x .left)),
+      cond-both (ltZ r l) l r (λ z. mag z < 2 ^ 31) (λ _. mono-narrow (x .left)) (λ _. mono-narrow (x .right)),
+    )
 
 abbrev pub stereo-power : Stereo → ℕ
 stereo-power x = square (x .left .value) + square (x .right .value)

@@ -23,14 +23,17 @@ pub trait Frame: Copy + Drop {
 
     // The bytes of a frame, and the frame of a list of bytes.
     ghost encoded: { Self → List ℕ };
+
     ghost decoded: { List ℕ → Self };
 
     // The line of text of a frame, without the line's end, and the frame of a line, if it is one's.
     ghost line: { Self → List ℕ };
+
     ghost parsed: { List ℕ → Option Self };
 
     // The smallest and the largest of a frame's numbers.
     ghost least: { Self → ℤ };
+
     ghost greatest: { Self → ℤ };
 
     // Both fit 32 bits: `mag z < 2 ^ 31` says that z lies from -2 ^ 31 to 2 ^ 31 - 1.

@@ -9,7 +9,11 @@ fn digit_char(value: u8) -> u8
     requires { ⌜ value < 16 ⌝ }
     ensures { λ r. ⌜ r ≡ hex-char value ⌝ }
 {
-    if value < 10 { b'0' + value } else { b'A' - 10 + value }
+    if value < 10 {
+        b'0' + value
+    } else {
+        b'A' - 10 + value
+    }
 }
 
 // The number of a digit, or `None` where the byte is none.

@@ -34,12 +34,13 @@ module _ (R : ℤ → ℤ → Type 0) (pick : ℤ → ℤ → ℤ) (end : ℤ) (
       let rest = picked-extreme number narrow y ys in
       let w = picked number (y ∷ ys) in
       let v = pick (number x) w in
-      let met = rest .1 in
-      ((first (number x) w, further number v w (second (number x) w) (y ∷ ys) (rest .0)),
-       ⊎-elim
-         (λ e. (x, ([], y ∷ ys, refl), e))
-         (λ e. (met .0, (x ∷ met .1 .0, met .1 .1, ap (λ zs. x ∷ zs) (met .1 .2)), e ∙ met .2))
-         (either (number x) w))
+      let met = rest .1 in (
+        (first (number x) w, further number v w (second (number x) w) (y ∷ ys) (rest .0)),
+        ⊎-elim
+            (λ e. (x, ([], y ∷ ys, refl), e))
+            (λ e. (met .0, (x ∷ met .1 .0, met .1 .1, ap (λ zs. x ∷ zs) (met .1 .2)), e ∙ met .2))
+            (either (number x) w),
+      )
 
 min-either : (a b : ℤ) → (minZ a b ≡ a) ⊎ (minZ a b ≡ b)
 min-either a b = cond-both (ltZ b a) b a (λ v. (v ≡ a) ⊎ (v ≡ b)) (λ _. inr refl) (λ _. inl refl)
@@ -82,8 +83,9 @@ module _ {K : Type 0} (least greatest : K → ℤ) (narrow : (x : K) → (mag (l
 
   pub extent-reaches : (xs : List K) → Reaches least greatest xs (extent xs)
   extent-reaches [] some = absurd (omega arith)
-  extent-reaches (x ∷ xs) some =
-      (subst (Extreme (λ v z. v ≤ℤ z) least (x ∷ xs)) (sym (extent-low (x ∷ xs)))
+  extent-reaches (x ∷ xs) some = (
+    subst (Extreme (λ v z. v ≤ℤ z) least (x ∷ xs)) (sym (extent-low (x ∷ xs)))
         (picked-extreme (λ v z. v ≤ℤ z) minZ (pos 2147483647) min-first min-second up min-either least (λ y. min-top-right (least y) (narrow y .0)) x xs),
-       subst (Extreme (λ v z. z ≤ℤ v) greatest (x ∷ xs)) (sym (extent-high (x ∷ xs)))
-        (picked-extreme (λ v z. z ≤ℤ v) maxZ (negsuc 2147483647) max-first max-second (λ a b c f g. up c b a g f) max-either greatest (λ y. max-end-right (greatest y) (narrow y .1)) x xs))
+    subst (Extreme (λ v z. z ≤ℤ v) greatest (x ∷ xs)) (sym (extent-high (x ∷ xs)))
+        (picked-extreme (λ v z. z ≤ℤ v) maxZ (negsuc 2147483647) max-first max-second (λ a b c f g. up c b a g f) max-either greatest (λ y. max-end-right (greatest y) (narrow y .1)) x xs),
+  )

@@ -85,11 +85,11 @@ module _ {K : Type 0} (clips : K → Bool) where
       ends-found : Found (Ends (x ∷ xs)) (tail-with 1)
       ends-found =
           cond-both (eqb (r .tail) (r .count)) (r .count + 1) (r .tail) (Found (Ends (x ∷ xs)))
-            (λ e.
-              let found = told .tail .0 in
-              let same : found .0 ≡ xs = ends-whole xs (found .0) (found .1) (omega (arith, eqb-true (r .tail) (r .count) e, found .3, told .count)) in
-              (x ∷ xs, ([], refl), (clipped, subst Clipped same (found .2)), omega (arith, told .count)))
-            (λ _. tail-found)
+          (λ e.
+          let found = told .tail .0 in
+          let same : found .0 ≡ xs = ends-whole xs (found .0) (found .1) (omega (arith, eqb-true (r .tail) (r .count) e, found .3, told .count)) in
+          (x ∷ xs, ([], refl), (clipped, subst Clipped same (found .2)), omega (arith, told .count)))
+          (λ _. tail-found)
 
       ends-most : (part : List K) → Ends (x ∷ xs) part → Clipped part → length part ≤ tail-with 1
       ends-most part ([], e) all =
@@ -102,11 +102,11 @@ module _ {K : Type 0} (clips : K → Bool) where
       stands-found =
           ⊎-elim
           (λ more.
-            let front = begins-found in
-            (front .0, ([], front .1 .0, front .1 .1), front .2, omega (arith, front .3)))
+          let front = begins-found in
+          (front .0, ([], front .1 .0, front .1 .1), front .2, omega (arith, front .3)))
           (λ less.
-            let part = best-found in
-            (part .0, part .1, part .2, omega (arith, part .3)))
+          let part = best-found in
+          (part .0, part .1, part .2, omega (arith, part .3)))
           (cases-lt (r .best) (1 + r .head))
 
       clipped-more : Tells clips (x ∷ xs) (after (of-frame true) r)
@@ -126,8 +126,8 @@ module _ {K : Type 0} (clips : K → Bool) where
       whole-or-less : Found (Ends (x ∷ xs)) (tail-with 0)
       whole-or-less =
           cond-both (eqb (r .tail) (r .count)) (r .count + 0) (r .tail) (Found (Ends (x ∷ xs)))
-            (λ e. let part = tail-found in (part .0, part .1, part .2, omega (arith, part .3, eqb-true (r .tail) (r .count) e)))
-            (λ _. tail-found)
+          (λ e. let part = tail-found in (part .0, part .1, part .2, omega (arith, part .3, eqb-true (r .tail) (r .count) e)))
+          (λ _. tail-found)
 
       none-ends : (part : List K) → Ends (x ∷ xs) part → Clipped part → length part ≤ tail-with 0
       none-ends part ([], e) all = let bad : Clipped (x ∷ xs) = subst Clipped (sym e) all in absurd (never x (bad .0) clear)

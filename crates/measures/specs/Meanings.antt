@@ -39,7 +39,7 @@ module _ {K : Type 0} where
     abbrev pub Longest : (List K → Type 0) → ℕ → Type 0
     Longest Lies n =
         ((part : List K) × Lies part × All (λ x. clips x ≡ true) part × (length part ≡ n))
-      × ((part : List K) → Lies part → All (λ x. clips x ≡ true) part → length part ≤ n)
+        × ((part : List K) → Lies part → All (λ x. clips x ≡ true) part → length part ≤ n)
 
     -- what the four numbers of a clip run tell
     pub record Tells (frames : List K) (run : Run) : Type 0 where

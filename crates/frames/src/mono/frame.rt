@@ -21,14 +21,23 @@ impl Mono {
 
 pub impl Frame for Mono as MonoFrame {
     ghost wide = { 2 };
+
     ghost encoded = { mono-bytes };
+
     ghost decoded = { mono-from };
+
     ghost line = { mono-line };
+
     ghost parsed = { mono-parsed };
+
     ghost least = { λ x. x .value };
+
     ghost greatest = { λ x. x .value };
+
     ghost narrow = { λ x. (mono-narrow x, mono-narrow x) };
+
     ghost power = { λ x. square (x .value) };
+
     ghost clips = { λ x. at-end (2 ^ 15) (x .value) };
 
     fn width() -> usize {

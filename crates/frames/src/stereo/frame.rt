@@ -8,14 +8,23 @@ use crate::stereo::Stereo;
 
 pub impl Frame for Stereo as StereoFrame {
     ghost wide = { 4 };
+
     ghost encoded = { stereo-bytes };
+
     ghost decoded = { stereo-from };
+
     ghost line = { stereo-line };
+
     ghost parsed = { stereo-parsed };
+
     ghost least = { stereo-least };
+
     ghost greatest = { stereo-greatest };
+
     ghost narrow = { stereo-narrow };
+
     ghost power = { stereo-power };
+
     ghost clips = { stereo-clips };
 
     fn width() -> usize {

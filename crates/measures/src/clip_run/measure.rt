@@ -34,7 +34,9 @@ fn made(count: u32, head: u32, tail: u32, best: u32) -> ClipRun
 
 pub impl<K: Frame> Measure<K> for ClipRun as ClipRunMeasure {
     ghost worth = { λ x. frame-run (K·Frame .clips x) };
+
     ghost joined = { bridged };
+
     ghost neutral = { no-run };
 
     fn of(frame: K) -> ClipRun {

@@ -6,7 +6,9 @@ use frames::Frame;
 
 pub impl<K: Frame> Measure<K> for Energy as EnergyMeasure {
     ghost worth = { λ x. energy-of (K·Frame .power x) };
+
     ghost joined = { added };
+
     ghost neutral = { energy-of 0 };
 
     fn of(frame: K) -> Energy {

@@ -6,7 +6,9 @@ use frames::Frame;
 
 pub impl<K: Frame> Measure<K> for Extent as ExtentMeasure {
     ghost worth = { frame-extent (K·Frame .least) (K·Frame .greatest) (K·Frame .narrow) };
+
     ghost joined = { wider };
+
     ghost neutral = { no-extent };
 
     fn of(frame: K) -> Extent {

@@ -32,10 +32,11 @@ loop-byte-again c =
     let d = c .in-Continue-digit .digit in
     let read = sym (c .in-Continue-digit .ensures tt) in
     let small = digit-spelled (getD text i 0) d read .0 in
-    let on = sym (c .loop-byte .inv .2) ∙ read-on text i n (c .loop-byte-test .taken) ∙ ap (λ (o : Option ℕ). onward o (λ e. hex-number (n * 16 + e) (drop (i + 1) text))) read in
-    (omega arith,
-     subst (λ r. n * 16 + r < 16 ^ (i + 1)) (sym (c .from .ensures)) (below-more i n d (c .loop-byte .inv .1) small),
-     ap (λ r. hex-number (n * 16 + r) (drop (i + 1) text)) (c .from .ensures) ∙ sym on)
+    let on = sym (c .loop-byte .inv .2) ∙ read-on text i n (c .loop-byte-test .taken) ∙ ap (λ (o : Option ℕ). onward o (λ e. hex-number (n * 16 + e) (drop (i + 1) text))) read in (
+      omega arith,
+      subst (λ r. n * 16 + r < 16 ^ (i + 1)) (sym (c .from .ensures)) (below-more i n d (c .loop-byte .inv .1) small),
+      ap (λ r. hex-number (n * 16 + r) (drop (i + 1) text)) (c .from .ensures) ∙ sym on,
+    )
 
 pub returns : need.returns
 returns c =

@@ -33,9 +33,9 @@ returns c =
     let rest : take (length text - (end + 1)) (drop (end + 1) text) ≡ drop (end + 1) text = take-all (length text - (end + 1)) (drop (end + 1) text) (omega (arith, length-drop (end + 1) text)) in
     record {
       lines =
-        lines-behind text some
-        ∙ ap (λ n. take n text ∷ lines (drop (n + 1) text)) (sym (c .line-end-end .ensures))
-        ∙ ap (λ n. take n text ∷ lines (drop (end + 1) text)) (omega arith)
-        ∙ ap (λ behind. take (end - 0) text ∷ lines behind) (sym rest);
+          lines-behind text some
+          ∙ ap (λ n. take n text ∷ lines (drop (n + 1) text)) (sym (c .line-end-end .ensures))
+          ∙ ap (λ n. take n text ∷ lines (drop (end + 1) text)) (omega arith)
+          ∙ ap (λ behind. take (end - 0) text ∷ lines behind) (sym rest);
       shorter = omega (arith, ap length rest, length-drop (end + 1) text);
     }

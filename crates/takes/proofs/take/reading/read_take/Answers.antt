@@ -23,13 +23,16 @@ loop-line-again g c =
     let frame-in : Option (g .K .Denot) → List (g .K .Denot) = λ o. vec-items (c .loop-line .frames) ++ listOf o in
     let number-in : Option (g .K .Denot) → List ℕ = λ o. vec-items (c .loop-line .unread) ++ told-of parsed (c .loop-line .number) o in
     let frames : vec-items (c .match-read-line .frames) ≡ frame-in (parsed line) =
-          elim (c .match-read-line .came) [
-            in-Some-read-line·in-Continue-push w ↦ ap vec-items (w .frames-is) ∙ w .in-Continue-push .ensures tt .items ∙ ap frame-in (w .in-Some-read-line .ensures tt)
-          | in-None·in-Continue-push-2 w ↦ ap vec-items (w .frames-is) ∙ sym (append-nil (vec-items (c .loop-line .frames))) ∙ ap frame-in (w .in-None .ensures tt) ] in
+    elim (c .match-read-line .came) [
+      | in-Some-read-line·in-Continue-push w ↦ ap vec-items (w .frames-is) ∙ w .in-Continue-push .ensures tt .items ∙ ap frame-in (w .in-Some-read-line .ensures tt)
+      | in-None·in-Continue-push-2 w ↦ ap vec-items (w .frames-is) ∙ sym (append-nil (vec-items (c .loop-line .frames))) ∙ ap frame-in (w .in-None .ensures tt)
+    ] in
     let unread : vec-items (c .match-read-line .unread) ≡ number-in (parsed line) =
-          elim (c .match-read-line .came) [
-            in-Some-read-line·in-Continue-push w ↦ ap vec-items (w .unread-is) ∙ sym (append-nil (vec-items (c .loop-line .unread))) ∙ ap number-in (w .in-Some-read-line .ensures tt)
-          | in-None·in-Continue-push-2 w ↦ ap vec-items (w .unread-is) ∙ w .in-Continue-push-2 .ensures tt .items ∙ ap number-in (w .in-None .ensures tt) ] in
-    (omega (arith, c .in-Some .ensures tt .shorter, inv .0),
-     frames-more parsed line behind all is _ _ _ frames (inv .1),
-     unread-more parsed line behind all is (c .loop-line .number) _ _ _ unread (inv .2))
+    elim (c .match-read-line .came) [
+      | in-Some-read-line·in-Continue-push w ↦ ap vec-items (w .unread-is) ∙ sym (append-nil (vec-items (c .loop-line .unread))) ∙ ap number-in (w .in-Some-read-line .ensures tt)
+      | in-None·in-Continue-push-2 w ↦ ap vec-items (w .unread-is) ∙ w .in-Continue-push-2 .ensures tt .items ∙ ap number-in (w .in-None .ensures tt)
+    ] in (
+      omega (arith, c .in-Some .ensures tt .shorter, inv .0),
+      frames-more parsed line behind all is _ _ _ frames (inv .1),
+      unread-more parsed line behind all is (c .loop-line .number) _ _ _ unread (inv .2),
+    )

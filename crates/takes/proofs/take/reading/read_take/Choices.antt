@@ -12,8 +12,8 @@ abbrev pub Inv-loop-line : given.InvT-loop-line
 Inv-loop-line g l =
     let parsed = g .K·Frame .parsed in
     (l .number + length (l .rest) ≤ 1 + length (l .text))
-  × (vec-items (l .frames) ++ frames-in parsed (lines (l .rest)) ≡ frames-in parsed (lines (l .text)))
-  × (vec-items (l .unread) ++ unread-in parsed (l .number) (lines (l .rest)) ≡ unread-in parsed 1 (lines (l .text)))
+    × (vec-items (l .frames) ++ frames-in parsed (lines (l .rest)) ≡ frames-in parsed (lines (l .text)))
+    × (vec-items (l .unread) ++ unread-in parsed (l .number) (lines (l .rest)) ≡ unread-in parsed 1 (lines (l .text)))
 
 abbrev pub μ-loop-line : given.MeasureT-loop-line
 μ-loop-line g l = length (l .rest)

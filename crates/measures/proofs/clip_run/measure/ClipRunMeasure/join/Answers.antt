@@ -21,5 +21,5 @@ returns g c =
     let y = c .args .other in
     same-clip-run _ (bridged x y)
     (c .made-2 .ensures
-      ∙ run-path refl (c .go-on-head .ensures) (c .go-on-tail .ensures) (c .max-best .ensures ∙ ap (λ n. max n (x .tail + y .head)) (c .max .ensures))
-      ∙ sym (capped-in (after (run-of x) (run-of y)) (c .if-count-gt-MOST .left)))
+    ∙ run-path refl (c .go-on-head .ensures) (c .go-on-tail .ensures) (c .max-best .ensures ∙ ap (λ n. max n (x .tail + y .head)) (c .max .ensures))
+    ∙ sym (capped-in (after (run-of x) (run-of y)) (c .if-count-gt-MOST .left)))

@@ -1,0 +1,39 @@
+-- The worked cases: what is given, and what the definitions make of it.
+use mathlib.Core.Path.{_≡_}
+use mathlib.Core.List.{List, [], _∷_, map}
+use Prim.Native.Nat.{ℕ, _^_}
+use lib.Chars.{codes}
+use lib.IntN.{ℤ, pos, negsuc}
+use Rattle.frames.specs.Twos.{unsigned}
+use Rattle.frames.specs.Samples.{square, at-end}
+use Rattle.frames.specs.Monos.{mono-of-bits, mono-bytes, mono-line, mono-narrow}
+use Rattle.frames.specs.declared.mono.Mono.{Mono}
+use Rattle.measures.specs.Measured.{measured}
+use Rattle.measures.specs.Extents.{frame-extent, no-extent, wider}
+use Rattle.measures.specs.Energies.{energy-of, added}
+use Rattle.measures.specs.ClipRuns.{frame-run, no-run, bridged}
+
+pub data Case : Type 0 where
+  -- a mono frame, its bytes and its line
+  a-frame : (value : ℤ) (bytes line : List ℕ) → Case
+  -- mono frames, and their lowest and highest number, energy and longest clipped run
+  some-frames : (values : List ℤ) (low high : ℤ) (energy best : ℕ) → Case
+
+abbrev mono : ℤ → Mono
+mono z = mono-of-bits (unsigned (2 ^ 15) z)
+
+abbrev pub Right : Case → Type 0
+Right (a-frame value bytes line) = (mono-bytes (mono value) ≡ bytes) × (mono-line (mono value) ≡ line)
+Right (some-frames values low high energy best) =
+    let frames = map mono values in
+    let extent = measured (frame-extent (λ x. x .value) (λ x. x .value) (λ x. (mono-narrow x, mono-narrow x))) wider no-extent frames in
+    (extent .low ≡ low)
+  × (extent .high ≡ high)
+  × (measured (λ x. energy-of (square (x .value))) added (energy-of 0) frames .sum ≡ energy)
+  × (measured (λ x. frame-run (at-end (2 ^ 15) (x .value))) bridged no-run frames .best ≡ best)
+
+abbrev pub table : List Case
+table =
+    a-frame (negsuc 1) (0xFE ∷ 0xFF ∷ []) (codes "FFFE")
+  ∷ some-frames (pos 3 ∷ negsuc 4 ∷ pos 32767 ∷ negsuc 32767 ∷ pos 32767 ∷ []) (negsuc 32767) (pos 32767) 3221094436 3
+  ∷ []
