@@ -28,12 +28,12 @@ Right (some-frames values low high energy best) =
     let frames = map mono values in
     let extent = measured (frame-extent (λ x. x .value) (λ x. x .value) (λ x. (mono-narrow x, mono-narrow x))) wider no-extent frames in
     (extent .low ≡ low)
-  × (extent .high ≡ high)
-  × (measured (λ x. energy-of (square (x .value))) added (energy-of 0) frames .sum ≡ energy)
-  × (measured (λ x. frame-run (at-end (2 ^ 15) (x .value))) bridged no-run frames .best ≡ best)
+    × (extent .high ≡ high)
+    × (measured (λ x. energy-of (square (x .value))) added (energy-of 0) frames .sum ≡ energy)
+    × (measured (λ x. frame-run (at-end (2 ^ 15) (x .value))) bridged no-run frames .best ≡ best)
 
 abbrev pub table : List Case
 table =
     a-frame (negsuc 1) (0xFE ∷ 0xFF ∷ []) (codes "FFFE")
-  ∷ some-frames (pos 3 ∷ negsuc 4 ∷ pos 32767 ∷ negsuc 32767 ∷ pos 32767 ∷ []) (negsuc 32767) (pos 32767) 3221094436 3
-  ∷ []
+    ∷ some-frames (pos 3 ∷ negsuc 4 ∷ pos 32767 ∷ negsuc 32767 ∷ pos 32767 ∷ []) (negsuc 32767) (pos 32767) 3221094436 3
+    ∷ []

@@ -49,7 +49,7 @@ fn columns<K: Frame>(heap: Global, frames: &[K], zoom: usize) -> Result<Vec<Exte
 pub fn draw<K: Frame>(rt: &LibcRuntime, frames: &[K]) -> Result<(), AnyError> {
     let zoom = zoom_of(frames.len());
     let columns = columns(rt.alloc(), frames, zoom)?;
-    println!(rt, "wave, {zoom} frames a column:")?;
+    println!(rt, "wave, frames a column: {zoom}")?;
     for row in 0..ROWS {
         let mut line = String::new(rt.alloc());
         for column in columns.as_slice() {

@@ -3,6 +3,8 @@ mod frame;
 mod hex;
 mod mono;
 mod stereo;
+#[cfg(test)]
+mod tests;
 
 pub use frame::Frame;
 pub use frame::TooShort;

@@ -5,6 +5,8 @@ mod extent;
 mod fold;
 mod meanings;
 mod measure;
+#[cfg(test)]
+mod tests;
 
 pub use clip_run::ClipRun;
 pub use clip_run::measure::ClipRunMeasure;

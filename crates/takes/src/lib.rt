@@ -2,6 +2,8 @@
 mod kind;
 mod lines;
 mod take;
+#[cfg(test)]
+mod tests;
 
 pub use kind::Kind;
 pub use kind::kind_of;

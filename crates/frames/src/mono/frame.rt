@@ -82,7 +82,7 @@ pub impl Frame for Mono as MonoFrame {
     }
 
     fn high(self) -> i32 {
-        i32::from(self.value)
+        self.low()
     }
 
     fn energy(self) -> u32 {
