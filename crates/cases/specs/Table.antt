@@ -8,6 +8,9 @@ use Rattle.frames.specs.Twos.{unsigned}
 use Rattle.frames.specs.Samples.{square, at-end}
 use Rattle.frames.specs.Monos.{mono-of-bits, mono-bytes, mono-line, mono-narrow}
 use Rattle.frames.specs.declared.mono.Mono.{Mono}
+use Rattle.rows.specs.declared.piece.Piece.{Piece}
+use Rattle.rows.specs.Pieces.{loose-of, whole-of, new-blocks}
+use Rattle.rows.specs.Mending.{mended}
 use Rattle.measures.specs.Measured.{measured}
 use Rattle.measures.specs.Extents.{frame-extent, no-extent, wider}
 use Rattle.measures.specs.Energies.{energy-of, added}
@@ -18,6 +21,8 @@ pub data Case : Type 0 where
   a-frame : (value : ℤ) (bytes line : List ℕ) → Case
   -- mono frames, and their lowest and highest number, energy and longest clipped run
   some-frames : (values : List ℤ) (low high : ℤ) (energy best : ℕ) → Case
+  -- pieces, what they are mended to with the block limit 8, and how many of that are new
+  some-pieces : (pieces given : List Piece) (new : ℕ) → Case
 
 abbrev mono : ℤ → Mono
 mono z = mono-of-bits (unsigned (2 ^ 15) z)
@@ -31,9 +36,19 @@ Right (some-frames values low high energy best) =
     × (extent .high ≡ high)
     × (measured (λ x. energy-of (square (x .value))) added (energy-of 0) frames .sum ≡ energy)
     × (measured (λ x. frame-run (at-end (2 ^ 15) (x .value))) bridged no-run frames .best ≡ best)
+Right (some-pieces pieces given new) = (mended 8 pieces ≡ given) × (new-blocks given ≡ new)
 
 abbrev pub table : List Case
 table =
     a-frame (negsuc 1) (0xFE ∷ 0xFF ∷ []) (codes "FFFE")
     ∷ some-frames (pos 3 ∷ negsuc 4 ∷ pos 32767 ∷ negsuc 32767 ∷ pos 32767 ∷ []) (negsuc 32767) (pos 32767) 3221094436 3
+    ∷ some-pieces [] [] 0
+    ∷ some-pieces (whole-of 0 3 ∷ []) (whole-of 0 3 ∷ []) 0
+    ∷ some-pieces (whole-of 0 4 ∷ whole-of 1 4 ∷ []) (whole-of 0 4 ∷ whole-of 1 4 ∷ []) 0
+    ∷ some-pieces (whole-of 0 3 ∷ whole-of 1 5 ∷ []) (loose-of 8 ∷ []) 1
+    ∷ some-pieces (whole-of 0 3 ∷ whole-of 1 6 ∷ []) (loose-of 4 ∷ loose-of 5 ∷ []) 2
+    ∷ some-pieces (whole-of 0 3 ∷ whole-of 1 8 ∷ []) (loose-of 5 ∷ loose-of 6 ∷ []) 2
+    ∷ some-pieces (loose-of 1 ∷ loose-of 2 ∷ loose-of 1 ∷ []) (loose-of 4 ∷ []) 1
+    ∷ some-pieces (whole-of 0 8 ∷ loose-of 1 ∷ whole-of 1 6 ∷ []) (loose-of 4 ∷ loose-of 5 ∷ whole-of 1 6 ∷ []) 2
+    ∷ some-pieces (whole-of 0 8 ∷ loose-of 1 ∷ loose-of 8 ∷ loose-of 7 ∷ []) (loose-of 4 ∷ loose-of 5 ∷ loose-of 8 ∷ loose-of 7 ∷ []) 4
     ∷ []

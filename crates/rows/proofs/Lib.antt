@@ -1,0 +1,9 @@
+pub mod Turns
+pub mod Ways
+pub mod Keeps
+pub mod Fresh
+pub mod Parts
+pub mod Places
+pub mod Borders
+pub mod Spans
+pub mod Splices

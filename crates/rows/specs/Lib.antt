@@ -1,0 +1,4 @@
+pub mod Pieces
+pub mod Mending
+pub mod Cutting
+pub mod Laws
