@@ -1,6 +1,8 @@
 // Reads a take from standard input, one frame a line, and prints what it found.
 mod drawing;
+mod planning;
 mod report;
+mod storing;
 
 use frames::Mono;
 use frames::MonoFrame;

@@ -1,5 +1,8 @@
 // What is told of a take: its kind and length, the lines that are no frame, its measures and its wave.
 use crate::drawing::draw;
+use crate::planning::plan;
+use crate::storing::keep;
+use crate::storing::limit_for;
 use frames::Frame;
 use measures::clip_run_of;
 use measures::energy_of;
@@ -21,6 +24,8 @@ pub fn report<K: Frame>(rt: &LibcRuntime, kind: &str, text: &[u8]) -> Result<(),
     if count > 0 {
         measures(rt, frames)?;
         draw(rt, frames)?;
+        keep(rt, frames)?;
+        plan(rt, count, limit_for(count))?;
     }
     Ok(())
 }

@@ -6,6 +6,9 @@ mod take;
 mod tests;
 
 pub use kind::Kind;
+pub use kind::KindDebug;
+pub use kind::KindEq;
+pub use kind::KindPartialEq;
 pub use kind::kind_of;
 pub use take::Take;
 pub use take::reading::read_take;
