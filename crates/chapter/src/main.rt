@@ -1,5 +1,6 @@
 // Reads a take from standard input, one frame a line, and prints what it found.
 mod drawing;
+mod keeping;
 mod planning;
 mod report;
 mod storing;

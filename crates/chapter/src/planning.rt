@@ -9,7 +9,7 @@ use std::alloc::Global;
 use std::error::AnyError;
 
 // A row of well-sized blocks for a take of `count` frames: stretches of `limit`, the last with what is left, mended.
-fn row_of(heap: Global, count: usize, limit: usize) -> Result<Vec<Entry>, AllocError> {
+pub fn row_of(heap: Global, count: usize, limit: usize) -> Result<Vec<Entry>, AllocError> {
     let limit = limit.max(1);
     let mut stretches = Vec::new(heap);
     for _ in 0..count / limit {
@@ -41,12 +41,11 @@ fn print_pieces(rt: &LibcRuntime, name: &str, pieces: &[Piece]) -> Result<(), An
 }
 
 // What is left of the take as a row when the frames from a third to a half of it are taken out.
-pub fn plan(rt: &LibcRuntime, count: usize, limit: usize) -> Result<(), AnyError> {
+pub fn plan(rt: &LibcRuntime, row: &[Entry], count: usize, limit: usize) -> Result<(), AnyError> {
     let heap = rt.alloc();
-    let row = row_of(heap, count, limit)?;
     let (from, to) = (count / 3, count / 2);
-    let mut pieces = pieces_of(heap, row.as_slice(), 0, from)?;
-    let behind = pieces_of(heap, row.as_slice(), to, count)?;
+    let mut pieces = pieces_of(heap, row, 0, from)?;
+    let behind = pieces_of(heap, row, to, count)?;
     pieces.extend_from_slice(behind.as_slice())?;
     let mended = mend(heap, limit, pieces.as_slice())?;
     let new = new_blocks(mended.as_slice());

@@ -1,6 +1,9 @@
 // What is told of a take: its kind and length, the lines that are no frame, its measures and its wave.
 use crate::drawing::draw;
+use crate::keeping::fail_second_put;
+use crate::keeping::keep_row;
 use crate::planning::plan;
+use crate::planning::row_of;
 use crate::storing::keep;
 use crate::storing::limit_for;
 use frames::Frame;
@@ -24,10 +27,19 @@ pub fn report<K: Frame>(rt: &LibcRuntime, kind: &str, text: &[u8]) -> Result<(),
     if count > 0 {
         measures(rt, frames)?;
         draw(rt, frames)?;
-        keep(rt, frames)?;
-        plan(rt, count, limit_for(count))?;
+        blocks(rt, frames)?;
     }
     Ok(())
+}
+
+// The take in blocks: in an image, as a row that is mended, and as a row of counted blocks.
+fn blocks<K: Frame>(rt: &LibcRuntime, frames: &[K]) -> Result<(), AnyError> {
+    let limit = limit_for(frames.len());
+    keep(rt, frames, limit)?;
+    let row = row_of(rt.alloc(), frames.len(), limit)?;
+    plan(rt, row.as_slice(), frames.len(), limit)?;
+    keep_row(rt, frames, row.as_slice(), limit)?;
+    fail_second_put(rt, frames, row.as_slice(), limit)
 }
 
 // The three measures of the whole take.

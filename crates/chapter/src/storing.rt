@@ -25,7 +25,12 @@ pub fn limit_for(count: usize) -> usize {
 }
 
 // Memory for so many slots, filled with ones, so that what the store does not write can be told.
-fn blank(heap: Global, slots: usize, width: usize, limit: usize) -> Result<Vec<u8>, AllocError> {
+pub fn blank(
+    heap: Global,
+    slots: usize,
+    width: usize,
+    limit: usize,
+) -> Result<Vec<u8>, AllocError> {
     let slot = width.saturating_mul(limit).saturating_add(6);
     vec![in heap; 0xFFu8; slots.saturating_mul(slot)]
 }
@@ -52,6 +57,15 @@ fn same<K: Frame>(a: K, b: K) -> bool {
     let mut first = [0u8; 256];
     let mut second = [0u8; 256];
     a.write_bytes(&mut first).is_ok() && b.write_bytes(&mut second).is_ok() && first == second
+}
+
+// Whether two lists of frames are the same.
+pub fn same_frames<K: Frame>(a: &[K], b: &[K]) -> bool {
+    let mut all = a.len() == b.len();
+    for (x, y) in a.iter().zip(b.iter()) {
+        all = all && same(*x, *y);
+    }
+    all
 }
 
 // Reads every block again and counts the frames that come back as they were.
@@ -136,11 +150,10 @@ fn write_file(rt: &LibcRuntime, bytes: &[u8]) -> Result<(), AnyError> {
 }
 
 // Keeps the take in an image, and tells what became of it.
-pub fn keep<K: Frame>(rt: &LibcRuntime, frames: &[K]) -> Result<(), AnyError> {
+pub fn keep<K: Frame>(rt: &LibcRuntime, frames: &[K], limit: usize) -> Result<(), AnyError> {
     if frames.is_empty() {
         return Ok(());
     }
-    let limit = limit_for(frames.len());
     let slots = (frames.len() / limit.max(1)).saturating_add(1 + SPARE);
     let mut store: ImageStore<K> = ImageStore::new(
         blank(rt.alloc(), slots, K::width(), limit)?,

@@ -4,4 +4,5 @@ pub mod Extents
 pub mod Energies
 pub mod Runs
 pub mod ClipRuns
+pub mod Summaries
 pub mod Meanings

@@ -5,6 +5,7 @@ mod extent;
 mod fold;
 mod meanings;
 mod measure;
+mod summary;
 #[cfg(test)]
 mod tests;
 
@@ -28,3 +29,5 @@ pub use meanings::clip_run_of;
 pub use meanings::energy_of;
 pub use meanings::extent_of;
 pub use measure::Measure;
+pub use summary::Summary;
+pub use summary::measure::SummaryMeasure;

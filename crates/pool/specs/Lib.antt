@@ -1,0 +1,4 @@
+pub mod Counts
+pub mod Freed
+pub mod Kept
+pub mod Blocks
