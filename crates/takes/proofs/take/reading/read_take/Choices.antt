@@ -11,7 +11,7 @@ use Rattle.takes.proofs.take.reading.read_take.Given as given
 abbrev pub Inv-loop-line : given.InvT-loop-line
 Inv-loop-line g l =
     let parsed = g .K·Frame .parsed in
-    (l .number + length (l .rest) ≤ 1 + length (l .text))
+    ((1 ≤ l .number) × (l .number + length (l .rest) ≤ 1 + length (l .text)))
     × (vec-items (l .frames) ++ frames-in parsed (lines (l .rest)) ≡ frames-in parsed (lines (l .text)))
     × (vec-items (l .unread) ++ unread-in parsed (l .number) (lines (l .rest)) ≡ unread-in parsed 1 (lines (l .text)))
 
