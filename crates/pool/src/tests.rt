@@ -63,6 +63,32 @@ fn put_row<S: Store>(
     Ok(put.is_ok())
 }
 
+// Puts one block of the first four frames of the row and its last four, by a work buffer like `room`.
+fn put_ends<S: Store>(
+    heap: Global,
+    pool: &mut Pool<S>,
+    room: &[S::Kind],
+) -> Result<bool, AllocError> {
+    let mut stretches = Vec::new(heap);
+    for (from, to) in [(0, 4), (14, 18)] {
+        stretches.push(Stretch::Row {
+            entries: &ROW,
+            from,
+            to,
+        })?;
+    }
+    let mut work = Vec::from_slice(heap, room)?;
+    let mut numbers = Vec::new(heap);
+    let cut = [Cut { at: 0, len: 8 }];
+    let put = pool.put_blocks(
+        stretches.as_slice(),
+        &cut,
+        work.as_mut_slice(),
+        &mut numbers,
+    );
+    Ok(put.is_ok())
+}
+
 #[test]
 fn puts_and_reads_are_counted(rt: LibcRuntime) -> Result<(), Fail> {
     let mut pool = pool(rt.alloc(), 0)?;
@@ -71,6 +97,8 @@ fn puts_and_reads_are_counted(rt: LibcRuntime) -> Result<(), Fail> {
     let mut buffer = vec![in rt.alloc(); Mono::new(0); 10]?;
     check(read_row(&mut pool.store, &ROW, 3, buffer.as_mut_slice()).is_ok())?;
     check_eq(pool.store.counted(), 6)?;
+    check(put_ends(rt.alloc(), &mut pool, buffer.as_slice())?)?;
+    check_eq(pool.store.counted(), 9)?;
     check(buffer.len() == 10)?;
     check_eq((buffer[0].value, buffer[9].value), (3, 12))
 }
