@@ -1,4 +1,6 @@
 // Kinds of sound frame: their bytes, their lines of text, and the facts that measures are made of.
+#![tactic(auto)]
+
 mod frame;
 mod hex;
 mod mono;
