@@ -1,4 +1,6 @@
 // What can be asked of an editor, how it refuses, and what a list of calls comes to on plain lists of frames.
+#![tactic(auto)]
+
 ghost use Rattle.calls.specs.Law.{HistoryLaw};
 
 mod call;

@@ -1,4 +1,6 @@
 // The worked cases of the rules, as one table with one proof.
+#![tactic(auto)]
+
 ghost use Rattle.std.specs.Prelude.{◌≡◌, length};
 ghost use Rattle.std.specs.List.{AllByRecursion as All};
 ghost use Rattle.cases.specs.Table.{table, Right};

@@ -1,4 +1,6 @@
 // Reads a take from standard input, one frame a line, and prints what it found.
+#![tactic(auto)]
+
 mod drawing;
 mod keeping;
 mod planning;

@@ -1,4 +1,6 @@
 // Measures of sound: a value of each frame, joined in order.
+#![tactic(auto)]
+
 mod clip_run;
 mod energy;
 mod extent;

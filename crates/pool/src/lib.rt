@@ -1,5 +1,7 @@
 // Counted blocks: a store with a count for each number, the measures of each block that was put, and
 // new blocks that are put all together or not at all.
+#![tactic(auto)]
+
 mod blocks;
 mod counting;
 mod cut;

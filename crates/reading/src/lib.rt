@@ -1,4 +1,6 @@
 // Frames out of rows, over any store: a row is read, and the frames of joined stretches are gathered.
+#![tactic(auto)]
+
 mod fault;
 mod gathering;
 mod row;

@@ -1,4 +1,6 @@
 // Block stores that keep each block in a slot of one size: in memory, and in the bytes of an image.
+#![tactic(auto)]
+
 mod check;
 mod image;
 mod memory;

@@ -1,4 +1,6 @@
 // States of a project: five rows each, and what holding, dropping and changing them does to the counts of a pool.
+#![tactic(auto)]
+
 mod dropping;
 mod holding;
 mod placing;

@@ -1,4 +1,6 @@
 // A take as text: one frame a line, each line ended by a line feed that the last may lack.
+#![tactic(auto)]
+
 mod kind;
 mod lines;
 mod take;

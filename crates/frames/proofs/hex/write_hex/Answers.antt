@@ -15,5 +15,5 @@ loop-i-preserved c =
     let w = hexed (length c.args.out.now) c.args.number in
     let e : c.loop-i.i ≡ suc (c.loop-i.i - 1) = omega arith in
     let within : c.loop-i.i - 1 < length out = omega arith in
-    write_more (c.loop-i.i - 1) c.loop-i.rest c.digit-char.result out w within c.digit-char.ensures
+    write_more (c.loop-i.i - 1) c.loop-i.rest c.digit_char.result out w within c.digit_char.ensures
     (subst (λ (i : ℕ). hexed i c.loop-i.rest ++ drop i out ≡ w) e c.loop-i.invariant)

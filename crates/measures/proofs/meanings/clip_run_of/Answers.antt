@@ -9,4 +9,4 @@ pub returns : goal.returns
 returns g c =
     let clips = g.K.Frame.clips in
     let xs = c.args.frames.now in
-    record { value = c.measure-of.ensures.value; tells = λ short. subst (λ (r : ClipRun). Tells clips xs (run_of r)) (sym c.measure-of.ensures.value) (run_tells clips xs short) }
+    record { value = c.measure_of.ensures.value; tells = λ short. subst (λ (r : ClipRun). Tells clips xs (run_of r)) (sym c.measure_of.ensures.value) (run_tells clips xs short) }

@@ -7,7 +7,7 @@ use Rattle.reading.proofs.Walk.{length_part, walk_done, walk_all, walk_skip, wal
 use Rattle.reading.proofs.Spans.{stretch_length}
 use Rattle.reading.proofs.Gathers.{sound_at, misses}
 use Rattle.reading.proofs.gathering.gather.Goals as goal
-use Rattle.reading.proofs.gathering.gather.Goals.{then-skip-len, else-skip-len+in-ok-fill}
+use Rattle.reading.proofs.gathering.gather.Goals.{then-skip-len, else-skip-len+in_ok-fill}
 
 pub loop-stretch-preserved : goal.loop-stretch-preserved
 loop-stretch-preserved g c =
@@ -25,14 +25,14 @@ loop-stretch-preserved g c =
             let long = stretch_length m s (sound_at m ss i s sound here c.stretch-item.is) in
             walk_as (stretch m) (omega arith) w.done-is w.buffer-is (walk_skip (stretch m) ss c.args.at c.args.buffer.now i c.loop-stretch.skip c.loop-stretch.done c.loop-stretch.buffer (inv.2 sound fits) s here c.stretch-item.is (omega arith) (omega arith)),
       )
-      | else-skip-len+in-ok-fill w ↦ (
+      | else-skip-len+in_ok-fill w ↦ (
         omega arith,
-        ap g.S.Store.meaning w.store-is ∙ w.in-ok-fill.ensures.store ∙ inv.1,
+        ap g.S.Store.meaning w.store-is ∙ w.in_ok-fill.ensures.store ∙ inv.1,
         λ sound fits.
             let fine = sound_at m ss i s sound here c.stretch-item.is in
             let long = stretch_length m s fine in
             let P : Meaning g.row.S-Kind.Denot → Type 0 = λ z. Sound z s in
-            let r = w.in-ok-fill.ensures.told (subst P (sym inv.1) fine) in
+            let r = w.in_ok-fill.ensures.told (subst P (sym inv.1) fine) in
             let n = w.min-count.result in
             let k = c.loop-stretch.done + n - c.loop-stretch.done in
             let old = c.loop-stretch.buffer in
@@ -42,18 +42,18 @@ loop-stretch-preserved g c =
       )
     ]
 
-pub returns-in-err-fill : goal.returns-in-err-fill
-returns-in-err-fill g c =
+pub returns-in_err-fill : goal.returns-in_err-fill
+returns-in_err-fill g c =
     let m = g.S.Store.meaning c.args.store.now in
     let inv = c.loop-stretch.invariant in
     let s = c.stretch-item.result in
-    let told = c.in-err-fill.ensures in
-    let f = c.in-err-fill.field-0.0 in
+    let told = c.in_err-fill.ensures in
+    let f = c.in_err-fill.field-0.0 in
     let n = c.min-count.result in
     let k = c.loop-stretch.done + n - c.loop-stretch.done in
     let old = c.loop-stretch.buffer in
     let room : length (take k (drop c.loop-stretch.done old)) ≡ n = length_part c.loop-stretch.done k n old (omega arith) (omega arith) in
-    let p = err_from_is_err_and c.from-residual.result c.from-residual.ensures.1 in
+    let p = err_from_is_err_and c.from_residual.result c.from_residual.ensures.1 in
     rw (p.1, p.2) record {
       store = told.store ∙ ap (λ z. after z f.error) inv.1;
       told = λ sound fits.

@@ -10,7 +10,7 @@ use Rattle.reading.proofs.Walk.{putMid_same, length_part, walk_done, walk_all, w
 use Rattle.reading.proofs.Tries.{read_after, read_fails, no_ailing}
 use Rattle.reading.proofs.Reading.{stops}
 use Rattle.reading.proofs.row.read_row.Goals as goal
-use Rattle.reading.proofs.row.read_row.Goals.{then-skip-entry, else-skip-entry+in-default}
+use Rattle.reading.proofs.row.read_row.Goals.{then-skip-entry, else-skip-entry+in_default}
 
 pub returns-in-Err : goal.returns-in-Err
 returns-in-Err g c =
@@ -30,7 +30,7 @@ returns-in-Err g c =
           let ties : Ties m e = All-get_or (Ties m) es c.loop-entry.entry-index none here tied in
           let walk = inv.2 tied fits in
           let fails = read_fails e.block c.loop-entry.skip _ c.min-count.result inv.1 long (omega arith) (omega arith) r.0 in
-          let P : List g.row.S-Kind.Denot → Type 0 = λ z. Stops m es c.args.start c.args.buffer.now (record { fault = c.in-Err.fault; at = c.saturating-add.result }) z (g.S.Store.meaning c.read.new.self) in
+          let P : List g.row.S-Kind.Denot → Type 0 = λ z. Stops m es c.args.start c.args.buffer.now (record { fault = c.in-Err.fault; at = c.saturating_add.result }) z (g.S.Store.meaning c.read.new.self) in
           subst P (sym (ap (put_mid c.loop-entry.done k old) r.1 ∙ putMid_same c.loop-entry.done k old))
           (stops walk.0 walk.1 e here (get_or_default es c.loop-entry.entry-index none e here) ties.1 (omega arith) (omega arith) _ (omega arith) fails);
     }
@@ -57,8 +57,8 @@ loop-entry-preserved g c =
               λ some. walk.1 (omega arith),
             ),
       )
-      | else-skip-entry+in-default w ↦
-          let r = w.in-default.ensures in (
+      | else-skip-entry+in_default w ↦
+          let r = w.in_default.ensures in (
             omega arith,
             ap g.S.Store.meaning w.store-is ∙ r.2 ∙ inv.1,
             λ tied fits.

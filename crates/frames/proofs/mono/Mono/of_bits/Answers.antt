@@ -7,4 +7,4 @@ use Rattle.frames.proofs.mono.Mono.of_bits.Goals as goal
 pub returns : goal.returns
 returns c =
     same_mono _ (mono_of_bits c.args.bits)
-    (c.new.ensures ∙ to_z-of_z w16 _ (record { sfits = c.cast-signed.type-inv }) ∙ c.cast-signed.ensures ∙ sym (bits_cast c.args.bits c.requires))
+    (c.new.ensures ∙ to_z-of_z w16 _ (record { sfits = c.cast_signed.type_inv }) ∙ c.cast_signed.ensures ∙ sym (bits_cast c.args.bits c.requires))

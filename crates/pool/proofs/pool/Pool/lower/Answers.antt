@@ -4,8 +4,8 @@ use Rattle.pool.proofs.OneCount.{in_range, one_less}
 use Rattle.pool.proofs.Falls.{freed_none, freed_one, emptied}
 use Rattle.pool.proofs.pool.Pool.lower.Goals as goal
 
-pub index-mut-requires : goal.index-mut-requires
-index-mut-requires g c =
+pub index_mut-requires : goal.index_mut-requires
+index_mut-requires g c =
     let xs = vec_items c.args.self.now.counts in
     let some : 0 < get_or xs c.args.number 0 = omega (arith, c.if-count-eq0.false, c.count-count.ensures) in
     omega (arith, in_range xs c.args.number some, c.args.self.now.counts.ok.0)

@@ -6,15 +6,15 @@ use Rattle.pool.specs.Kept.{summed, Kept, kept_after}
 use Rattle.pool.proofs.Keeping.{put_keeps}
 use Rattle.pool.proofs.pool.Pool.put.Goals as goal
 
-pub returns-in-err-number : goal.returns-in-err-number
-returns-in-err-number g c =
+pub returns-in_err-number : goal.returns-in_err-number
+returns-in_err-number g c =
     let k = g.Kind.Frame in
     let worth = frame_summary k.least k.greatest k.narrow k.power k.clips in
     let m = g.S.Store.meaning c.args.self.now.store in
     let m' = g.S.Store.meaning c.put.new.self in
     let kept = vec_items c.args.self.now.kept in
     let frames = c.args.frames.now in
-    let r = c.from-residual.result in
+    let r = c.from_residual.result in
     let puts : Puts m frames r m' = search rules in
     let same : kept ≡ kept_after worth kept frames r = search rules in
     record { store = puts; counts = refl; kept = same; keeps = λ before. subst (Kept worth m') (sym same) (put_keeps worth m m' kept frames r puts before) }
@@ -27,13 +27,13 @@ returns-then-number-len g c =
     let m' = g.S.Store.meaning c.put.new.self in
     let kept = vec_items c.args.self.now.kept in
     let frames = c.args.frames.now in
-    let n = c.in-ok-number.number in
-    let written : set kept n c.measure-of.result ≡ set kept n (summed worth frames) = ap (set kept n) c.measure-of.ensures.value in
+    let n = c.in_ok-number.number in
+    let written : set kept n c.measure_of.result ≡ set kept n (summed worth frames) = ap (set kept n) c.measure_of.ensures.value in
     record {
-      store = c.in-ok-number.ensures;
+      store = c.in_ok-number.ensures;
       counts = refl;
       kept = written;
-      keeps = λ before. subst (Kept worth m') (sym written) (put_keeps worth m m' kept frames (Ok n) c.in-ok-number.ensures before);
+      keeps = λ before. subst (Kept worth m') (sym written) (put_keeps worth m m' kept frames (Ok n) c.in_ok-number.ensures before);
     }
 
 pub returns-else-number-len : goal.returns-else-number-len
@@ -44,11 +44,11 @@ returns-else-number-len g c =
     let m' = g.S.Store.meaning c.put.new.self in
     let kept = vec_items c.args.self.now.kept in
     let frames = c.args.frames.now in
-    let n = c.in-ok-number.number in
+    let n = c.in_ok-number.number in
     let same = sym (set_past kept n (summed worth frames) (omega (arith, c.if-number-len.false, c.len.ensures, c.args.self.now.kept.ok.0))) in
     record {
-      store = c.in-ok-number.ensures;
+      store = c.in_ok-number.ensures;
       counts = refl;
       kept = same;
-      keeps = λ before. subst (Kept worth m') (sym same) (put_keeps worth m m' kept frames (Ok n) c.in-ok-number.ensures before);
+      keeps = λ before. subst (Kept worth m') (sym same) (put_keeps worth m m' kept frames (Ok n) c.in_ok-number.ensures before);
     }

@@ -17,12 +17,12 @@ returns-in-Err g c =
     let none : Cut = record { at = 0; len = 0 } in
     let Below : List ℕ → Type 0 = All (λ n. n < capacity m) in
     let told = c.in-Err.ensures in
-    let back = c.take-back.ensures in
-    let undone : g.S.Store.meaning c.take-back.new.self.store ≡ after m c.in-Err.fault.error = putting_back inv.2 c.in-Err.fault.error _ _ told.store back.store in
+    let back = c.take_back.ensures in
+    let undone : g.S.Store.meaning c.take_back.new.self.store ≡ after m c.in-Err.fault.error = putting_back inv.2 c.in-Err.fault.error _ _ told.store back.store in
     record {
       below = subst Below (sym back.numbers) tt;
       store = (back.numbers, undone);
-      rows = rows_stay m (g.S.Store.meaning c.take-back.new.self.store) (λ n _. ap (λ z. block z n) undone);
+      rows = rows_stay m (g.S.Store.meaning c.take_back.new.self.store) (λ n _. ap (λ z. block z n) undone);
       told = stopped m _ c.args.stretches.now c.args.cuts.now none c.loop-cut.cut-index (length c.args.work.now) c.loop-cut-test.true inv.0 _ inv.1 inv.2 c.in-Err.fault _ (λ s f. told.told s (omega (arith, f.0), f.1));
       work = omega arith;
       counts = back.counts ∙ told.counts ∙ c.loop-cut.invariant.3;
@@ -36,10 +36,10 @@ loop-cut-preserved g c =
     let none : Cut = record { at = 0; len = 0 } in
     let told = c.in-Ok.ensures in
     let next = more m _ c.args.stretches.now c.args.cuts.now none c.loop-cut.cut-index (length c.args.work.now) c.loop-cut-test.true inv.0 _ inv.1 inv.2 c.in-Ok.number _ inv.3 told.store (λ s f. told.told s (omega (arith, f.0), f.1)) in
-    let P : List ℕ → Type 0 = λ z. Putting m next.parts z (g.S.Store.meaning c.put-part.new.self.store) in (
+    let P : List ℕ → Type 0 = λ z. Putting m next.parts z (g.S.Store.meaning c.put_part.new.self.store) in (
       omega arith,
       omega arith,
-      (next.parts, next.count, subst P (sym c.push-reserved.ensures.items) next.putting, next.right),
+      (next.parts, next.count, subst P (sym c.push_reserved.ensures.items) next.putting, next.right),
       told.counts ∙ c.loop-cut.invariant.3,
       λ before. told.keeps (c.loop-cut.invariant.4 before),
     )

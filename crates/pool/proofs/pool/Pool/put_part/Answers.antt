@@ -18,7 +18,7 @@ returns g c =
     let seq = sequence m c.args.stretches.now in
     let cut = c.args.cut in
     let n = c.min-count.result in
-    let gathered = c.in-ok-gather.ensures in
+    let gathered = c.in_ok-gather.ensures in
     record {
       store = put_takes _ c.put.result _ m _ gathered.store c.put.ensures.store;
       told = λ sound fits.
@@ -32,8 +32,8 @@ returns g c =
       keeps = λ before. c.put.ensures.keeps (subst (λ (z : Meaning g.row.S-Kind.Denot). Kept worth z (vec_items c.args.self.now.kept)) (sym gathered.store) before);
     }
 
-pub returns-in-err-gather : goal.returns-in-err-gather
-returns-in-err-gather g c =
+pub returns-in_err-gather : goal.returns-in_err-gather
+returns-in_err-gather g c =
     let k = g.Kind.Frame in
     let worth = frame_summary k.least k.greatest k.narrow k.power k.clips in
     let n = c.min-count.result in
@@ -41,13 +41,13 @@ returns-in-err-gather g c =
     let cut = c.args.cut in
     let m = g.S.Store.meaning c.args.self.now.store in
     let m' = g.S.Store.meaning c.gather.new.store in
-    let told = c.in-err-gather.ensures in
-    let p = err_from_is_err_and c.from-residual.result c.from-residual.ensures.1 in
+    let told = c.in_err-gather.ensures in
+    let p = err_from_is_err_and c.from_residual.result c.from_residual.ensures.1 in
     rw (p.1, p.2) record {
       store = told.store;
       told = λ sound fits.
           let room : length (take (n - 0) c.args.work.now) ≡ cut.len = length-take-le (n - 0) c.args.work.now (omega arith) ∙ omega (arith, fits.0) in
-          let P : ℕ → Type 0 = λ z. Misses m (source ss) cut.at z c.in-err-gather.field-0.0 m' in
+          let P : ℕ → Type 0 = λ z. Misses m (source ss) cut.at z c.in_err-gather.field-0.0 m' in
           inl (subst P room (told.told sound (omega (arith, fits.1))));
       counts = refl;
       keeps = λ before. same_keeps worth m m' (vec_items c.args.self.now.kept) (ap (λ (z : Meaning g.row.S-Kind.Denot). z.blocks) told.store) before;

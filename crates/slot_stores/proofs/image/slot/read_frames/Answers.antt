@@ -6,8 +6,8 @@ use Rattle.slot_stores.proofs.Numbered.{within}
 use Rattle.slot_stores.proofs.Framed.{read_whole, same_some}
 use Rattle.slot_stores.proofs.image.slot.read_frames.Goals as goal
 
-pub slice-bounds-read-bytes-end : goal.slice-bounds-read-bytes-end
-slice-bounds-read-bytes-end g c =
+pub slice_bounds-read_bytes-end : goal.slice_bounds-read_bytes-end
+slice_bounds-read_bytes-end g c =
     let w = c.width-width.result in
     let i = c.loop-i.i in
     let e = within i (length c.args.buffer.now) g.K.Frame.wide c.loop-i-test.true in

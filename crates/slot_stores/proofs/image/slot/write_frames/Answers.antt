@@ -12,24 +12,24 @@ loop-i-init g c =
     let d = vec_items c.args.bytes.now in
     (refl, c.width-width.ensures, paste_none d c.args.at [] ∙ ap (paste d c.args.at []) (sym (zero-mul g.K.Frame.wide)))
 
-pub overflow-mul-i : goal.overflow-mul-i
-overflow-mul-i g c =
+pub overflow_mul-i : goal.overflow_mul-i
+overflow_mul-i g c =
     let w = c.width-width.result in
     let i = c.loop-i.i in
     let e = within i (length c.args.frames.now) g.K.Frame.wide c.loop-i-test.true in
     let h : i * w + w ≤ vec_len c.args.bytes.now = subst (λ v. i * v + v ≤ vec_len c.args.bytes.now) (sym c.width-width.ensures) (omega (arith, e, c.requires)) in
     search rules
 
-pub overflow-add-at : goal.overflow-add-at
-overflow-add-at g c =
+pub overflow_add-at : goal.overflow_add-at
+overflow_add-at g c =
     let w = c.width-width.result in
     let i = c.loop-i.i in
     let e = within i (length c.args.frames.now) g.K.Frame.wide c.loop-i-test.true in
     let h : c.args.at + (i * w + w) ≤ vec_len c.args.bytes.now = subst (λ v. c.args.at + (i * v + v) ≤ vec_len c.args.bytes.now) (sym c.width-width.ensures) (omega (arith, e, c.requires)) in
     search rules
 
-pub write-frame-requires : goal.write-frame-requires
-write-frame-requires g c =
+pub write_frame-requires : goal.write_frame-requires
+write_frame-requires g c =
     let w = c.width-width.result in
     let i = c.loop-i.i in
     let e = within i (length c.args.frames.now) g.K.Frame.wide c.loop-i-test.true in
@@ -49,9 +49,9 @@ loop-i-preserved g c =
     let lt = c.loop-i-test.true in
     let es : i * w ≡ length s = sym (joined_length enc w long (take i xs) ∙ ap (λ n. n * w) (length-take-le i xs (omega arith))) in
     let room : at ≤ length d = omega (arith, c.requires, c.args.bytes.now.ok.0) in (
-      c.write-frame.ensures.len ∙ c.loop-i.invariant.0,
+      c.write_frame.ensures.len ∙ c.loop-i.invariant.0,
       c.loop-i.invariant.1,
-      c.write-frame.ensures.items ∙ ap (λ l. paste l (at + i * c.width-width.result) (enc x) w) c.loop-i.invariant.2 ∙
+      c.write_frame.ensures.items ∙ ap (λ l. paste l (at + i * c.width-width.result) (enc x) w) c.loop-i.invariant.2 ∙
           ap (λ v. paste (paste d at s (i * w)) (at + i * v) (enc x) w) c.width-width.ensures ∙
           paste-paste d at s (enc x) (i * w) w es (sym (long x)) room ∙
           ap (λ z. paste d at z (i * w + w)) (joined_next enc xs i x lt c.index-frames-i.is) ∙

@@ -4,19 +4,19 @@ use Rattle.slot_stores.specs.Memory.{slot_frames}
 use Rattle.slot_stores.proofs.Numbered.{numbered_same}
 use Rattle.slot_stores.proofs.memory.MemoryStore.new.Goals as goal
 
-pub invariant-of-result : goal.invariant-of-result
-invariant-of-result g c = (
-  c.slot-count-slots.ensures ∙ ap (count_of_slots c.args.limit c.args.limit) c.len.ensures,
-  ((λ n. omega (arith, c.no-lengths-lengths.ensures n)), tt),
+pub invariant_of-result : goal.invariant_of-result
+invariant_of-result g c = (
+  c.slot_count-slots.ensures ∙ ap (count_of_slots c.args.limit c.args.limit) c.len.ensures,
+  ((λ n. omega (arith, c.no_lengths-lengths.ensures n)), tt),
 )
 
 pub returns : goal.returns
 returns g c =
     let limit = c.args.limit in
-    let held = slot_frames (vec_items c.args.frames) limit c.no-lengths-lengths.result in
+    let held = slot_frames (vec_items c.args.frames) limit c.no_lengths-lengths.result in
     record {
       meaning = ap (λ bs. record { limit = limit; ailing = false; blocks = bs })
-          (ap (numbered held) (c.slot-count-slots.ensures ∙ ap (count_of_slots limit limit) c.len.ensures) ∙
-          numbered_same held _ [] (λ k h. ap (λ n. take n (drop (k * limit) (vec_items c.args.frames))) (c.no-lengths-lengths.ensures k)));
+          (ap (numbered held) (c.slot_count-slots.ensures ∙ ap (count_of_slots limit limit) c.len.ensures) ∙
+          numbered_same held _ [] (λ k h. ap (λ n. take n (drop (k * limit) (vec_items c.args.frames))) (c.no_lengths-lengths.ensures k)));
       frames = search rules;
     }

@@ -3,7 +3,7 @@ use Rattle.std.proofs.lemmas.Bool.{eq-eqb, ne_eqb}
 use Rattle.stores.specs.Meaning.{vacant}
 use Rattle.stores.proofs.Vacant.{vacant_take}
 use Rattle.stores.proofs.store.Store.free.Goals as goal
-use Rattle.stores.proofs.store.Store.free.Goals.{then-block-len-eq0, else-block-len-eq0}
+use Rattle.stores.proofs.store.Store.free.Goals.{then-block_len-eq0, else-block_len-eq0}
 
 pub loop-number-preserved : goal.loop-number-preserved
 loop-number-preserved g c =
@@ -12,12 +12,12 @@ loop-number-preserved g c =
     let before = vacant (take i bs) in
     let lt : i < length bs = omega arith in
     let next = vacant_take bs i lt in
-    elim c.if-block-len-eq0.branch [
-      | then-block-len-eq0 w ↦
-          let more = next ∙ ap (λ t. before + cond t 1 0) (eq-eqb (length (get_or bs i [])) 0 (sym c.block-len.ensures ∙ w.if-block-len-eq0.true)) in
+    elim c.if-block_len-eq0.branch [
+      | then-block_len-eq0 w ↦
+          let more = next ∙ ap (λ t. before + cond t 1 0) (eq-eqb (length (get_or bs i [])) 0 (sym c.block_len.ensures ∙ w.if-block_len-eq0.true)) in
           (omega arith, omega (arith, w.count-is), omega (arith, w.count-is, more))
-      | else-block-len-eq0 w ↦
-          let same = next ∙ ap (λ t. before + cond t 1 0) (ne_eqb (length (get_or bs i [])) 0 (λ e. w.if-block-len-eq0.false (c.block-len.ensures ∙ e))) in
+      | else-block_len-eq0 w ↦
+          let same = next ∙ ap (λ t. before + cond t 1 0) (ne_eqb (length (get_or bs i [])) 0 (λ e. w.if-block_len-eq0.false (c.block_len.ensures ∙ e))) in
           (omega arith, omega (arith, w.count-is), omega (arith, w.count-is, same))
     ]
 

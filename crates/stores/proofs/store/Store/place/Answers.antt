@@ -6,8 +6,8 @@ use Rattle.stores.proofs.Refusals.{placed_ailing, placed_bad, placed_lowest}
 use Rattle.stores.proofs.store.Store.place.Goals as goal
 use Rattle.stores.proofs.store.Store.place.Goals.{then-count-eq0-via-then-count-eq0, then-count-eq0-via-else-count-eq0+then-count-limit}
 
-pub returns-then-is-ailing : goal.returns-then-is-ailing
-returns-then-is-ailing g c = sym (placed_ailing (g.Self.Store.meaning c.args.self.now) c.args.count (sym c.if-is-ailing.ensures))
+pub returns-then-is_ailing : goal.returns-then-is_ailing
+returns-then-is_ailing g c = sym (placed_ailing (g.Self.Store.meaning c.args.self.now) c.args.count (sym c.if-is_ailing.ensures))
 
 pub returns-then-count-eq0 : goal.returns-then-count-eq0
 returns-then-count-eq0 g c =
@@ -20,18 +20,18 @@ returns-then-count-eq0 g c =
           let long : m.limit < n = omega (arith, w.if-count-limit.true, w.limit.ensures) in
           or_right (eqb n 0) (ltb m.limit n) (lt-ltb m.limit n long)
     ] in
-    sym (placed_bad m n (sym c.if-is-ailing.ensures) bad)
+    sym (placed_bad m n (sym c.if-is_ailing.ensures) bad)
 
 pub returns-in-Some : goal.returns-in-Some
 returns-in-Some g c =
     let m = g.Self.Store.meaning c.args.self.now in
     let n = c.args.count in
     let short : n ≤ m.limit = omega (arith, c.if-count-limit.false, c.limit.ensures) in
-    sym (placed_lowest m n (sym c.if-is-ailing.ensures) c.if-count-eq0.false short ∙ ap (λ o. or_error o Full) (sym c.in-Some.ensures))
+    sym (placed_lowest m n (sym c.if-is_ailing.ensures) c.if-count-eq0.false short ∙ ap (λ o. or_error o Full) (sym c.in-Some.ensures))
 
 pub returns-in-None : goal.returns-in-None
 returns-in-None g c =
     let m = g.Self.Store.meaning c.args.self.now in
     let n = c.args.count in
     let short : n ≤ m.limit = omega (arith, c.if-count-limit.false, c.limit.ensures) in
-    sym (placed_lowest m n (sym c.if-is-ailing.ensures) c.if-count-eq0.false short ∙ ap (λ o. or_error o Full) (sym c.in-None.ensures))
+    sym (placed_lowest m n (sym c.if-is_ailing.ensures) c.if-count-eq0.false short ∙ ap (λ o. or_error o Full) (sym c.in-None.ensures))

@@ -11,6 +11,6 @@ returns c =
     let bs = c.args.bytes.now in
     let l : length bs ≡ 4 = search rules in
     let rest : take 2 (drop 2 bs) ≡ drop 2 bs = take_all 2 (drop 2 bs) (omega (arith, length-drop 2 bs)) in
-    let left = bytes_read (take 2 bs) c.in-ok-left.left (omega (arith, length-take 2 bs)) c.in-ok-left.ensures in
-    let right = bytes_read (take 2 (drop 2 bs)) c.in-ok-right.right (omega (arith, ap length rest, length-drop 2 bs)) c.in-ok-right.ensures in
+    let left = bytes_read (take 2 bs) c.in_ok-left.left (omega (arith, length-take 2 bs)) c.in_ok-left.ensures in
+    let right = bytes_read (take 2 (drop 2 bs)) c.in_ok-right.right (omega (arith, ap length rest, length-drop 2 bs)) c.in_ok-right.ensures in
     ap Some (same_stereo _ (stereo_from bs) left (right ∙ ap mono_from rest)) ∙ sym (cond-true _ _ _ (eq-eqb (length bs) 4 l))

@@ -9,19 +9,19 @@ use Rattle.frames.proofs.stereo.frame.StereoFrame.read_line.Goals as goal
 pub returns-then-text-ne8 : goal.returns-then-text-ne8
 returns-then-text-ne8 c = sym (stereo_unparsed c.args.text.now c.if-text-ne8.true)
 
-pub returns-in-err-right : goal.returns-in-err-right
-returns-in-err-right c =
+pub returns-in_err-right : goal.returns-in_err-right
+returns-in_err-right c =
     let text = c.args.text.now in
     let l : length text ≡ 8 = search rules in
     let rest : take 4 (drop 4 text) ≡ drop 4 text = take_all 4 (drop 4 text) (omega (arith, length-drop 4 text)) in
-    c.from-residual-in-err-right.ensures
-    ∙ ap (both (Some c.in-ok-left.left)) (c.in-err-right.ensures ∙ ap mono_parsed rest)
-    ∙ ap (λ (o : Option Mono). both o (mono_parsed (drop 4 text))) c.in-ok-left.ensures
+    c.from_residual-in_err-right.ensures
+    ∙ ap (both (Some c.in_ok-left.left)) (c.in_err-right.ensures ∙ ap mono_parsed rest)
+    ∙ ap (λ (o : Option Mono). both o (mono_parsed (drop 4 text))) c.in_ok-left.ensures
 
 pub returns : goal.returns
 returns c =
     let text = c.args.text.now in
     let l : length text ≡ 8 = search rules in
     let rest : take 4 (drop 4 text) ≡ drop 4 text = take_all 4 (drop 4 text) (omega (arith, length-drop 4 text)) in
-    ap (both (Some c.in-ok-left.left)) (c.in-ok-right.ensures ∙ ap mono_parsed rest)
-    ∙ ap (λ (o : Option Mono). both o (mono_parsed (drop 4 text))) c.in-ok-left.ensures
+    ap (both (Some c.in_ok-left.left)) (c.in_ok-right.ensures ∙ ap mono_parsed rest)
+    ∙ ap (λ (o : Option Mono). both o (mono_parsed (drop 4 text))) c.in_ok-left.ensures

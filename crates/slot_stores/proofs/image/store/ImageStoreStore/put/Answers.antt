@@ -16,27 +16,27 @@ returns-in-Err g c =
       bytes = refl;
     }
 
-pub slot-size-requires : goal.slot-size-requires
-slot-size-requires g c =
+pub slot_size-requires : goal.slot_size-requires
+slot_size-requires g c =
     let s = c.args.self.now in
     let w = g.K.Frame.wide in
     let xs = vec_items s.bytes in
     let p = place_slot w g.K.Frame.decoded s.limit xs c.in-Ok.place (length c.args.frames.now) c.in-Ok.ensures in
     limit_of s.limit (slot_bytes w s.limit) (length xs) c.in-Ok.place p.0
 
-pub overflow-mul-at : goal.overflow-mul-at
-overflow-mul-at g c =
+pub overflow_mul-at : goal.overflow_mul-at
+overflow_mul-at g c =
     let s = c.args.self.now in
     let w = g.K.Frame.wide in
     let n = c.in-Ok.place in
-    let z = c.slot-size.result in
+    let z = c.slot_size.result in
     let p = place_slot w g.K.Frame.decoded s.limit (vec_items s.bytes) n (length c.args.frames.now) c.in-Ok.ensures in
     let base = slot_room w s.limit (vec_items s.bytes) n p.0 in
-    let h : n * z + z ≤ vec_len s.bytes = subst (λ v. n * v + v ≤ vec_len s.bytes) (sym c.slot-size.ensures) (omega (arith, base, s.bytes.ok.0)) in
+    let h : n * z + z ≤ vec_len s.bytes = subst (λ v. n * v + v ≤ vec_len s.bytes) (sym c.slot_size.ensures) (omega (arith, base, s.bytes.ok.0)) in
     search rules
 
-pub write-slot-requires : goal.write-slot-requires
-write-slot-requires g c =
+pub write_slot-requires : goal.write_slot-requires
+write_slot-requires g c =
     let s = c.args.self.now in
     let w = g.K.Frame.wide in
     let n = c.in-Ok.place in
@@ -44,7 +44,7 @@ write-slot-requires g c =
     let p = place_slot w g.K.Frame.decoded s.limit (vec_items s.bytes) n count c.in-Ok.ensures in
     let base = slot_room w s.limit (vec_items s.bytes) n p.0 in
     let m = mul-le-mul_right {m = count} {n = s.limit} w p.1 in
-    subst (λ v. n * v + (6 + count * w) ≤ vec_len s.bytes) (sym c.slot-size.ensures) (omega (arith, base, m, mul_comm w s.limit, s.bytes.ok.0))
+    subst (λ v. n * v + (6 + count * w) ≤ vec_len s.bytes) (sym c.slot_size.ensures) (omega (arith, base, m, mul_comm w s.limit, s.bytes.ok.0))
 
 pub returns : goal.returns
 returns g c =
@@ -55,7 +55,7 @@ returns g c =
     let dec = g.K.Frame.decoded in
     let b = c.args.frames.now in
     let p = place_slot w dec s.limit xs n (length b) c.in-Ok.ensures in
-    let written_is = c.write-slot.ensures.items ∙ ap (λ v. paste xs (n * v) (written g.K.Frame.encoded b) (6 + length b * w)) c.slot-size.ensures in
+    let written_is = c.write_slot.ensures.items ∙ ap (λ v. paste xs (n * v) (written g.K.Frame.encoded b) (6 + length b * w)) c.slot_size.ensures in
     record {
       promised = put_done (image w dec s) b n _ c.in-Ok.ensures
           (ap (imaged w dec s.limit) written_is ∙

@@ -13,8 +13,8 @@ returns-in-Err g c =
       frames = refl;
     }
 
-pub overflow-mul-number : goal.overflow-mul-number
-overflow-mul-number g c =
+pub overflow_mul-number : goal.overflow_mul-number
+overflow_mul-number g c =
     let s = c.args.self.now in
     let p = place_slot s (length c.args.frames.now) c.in-Ok.place c.in-Ok.ensures in
     let h = room s c.in-Ok.place p.0 in
@@ -26,8 +26,8 @@ overwrite-requires g c =
     let p = place_slot s (length c.args.frames.now) c.in-Ok.place c.in-Ok.ensures in
     omega (arith, room s c.in-Ok.place p.0, s.frames.ok.0)
 
-pub offset-bounds-self-number : goal.offset-bounds-self-number
-offset-bounds-self-number g c =
+pub offset_bounds-self-number : goal.offset_bounds-self-number
+offset_bounds-self-number g c =
     let s = c.args.self.now in
     let p = place_slot s (length c.args.frames.now) c.in-Ok.place c.in-Ok.ensures in
     let h = few s in
@@ -39,15 +39,15 @@ bounds-self-number g c =
     let p = place_slot s (length c.args.frames.now) c.in-Ok.place c.in-Ok.ensures in
     omega (arith, few s)
 
-pub overflow-cast-self : goal.overflow-cast-self
-overflow-cast-self g c =
+pub overflow_cast-self : goal.overflow_cast-self
+overflow_cast-self g c =
     let s = c.args.self.now in
     let p = place_slot s (length c.args.frames.now) c.in-Ok.place c.in-Ok.ensures in
     let h = limit_small s c.in-Ok.place p.0 in
     search rules
 
-pub invariant-of-self : goal.invariant-of-self
-invariant-of-self g c =
+pub invariant_of-self : goal.invariant_of-self
+invariant_of-self g c =
     let s = c.args.self.now in
     let p = place_slot s (length c.args.frames.now) c.in-Ok.place c.in-Ok.ensures in (
       s.whole ∙ ap (count_of_slots s.limit s.limit) (sym c.overwrite.ensures.len),
