@@ -14,7 +14,7 @@ use crate::tripping::Tripping;
 impl<S: Store> Tripping<S> {
     // Counts one put or read, and says whether it is the one that fails.
     fn trips(&mut self) -> bool
-        ensures value { result ≡ (self.old.counted + 1 == self.old).trip_at }
+        ensures value { result ≡ (self.old.counted + 1 == self.old.trip_at) }
         ensures counted { self.new.counted ≡ one_more self.old.counted }
         ensures tripped { self.new.tripped ≡ (result || self.old.tripped) }
         ensures below { self.new.below ≡ self.old.below }
