@@ -1,4 +1,6 @@
 // Rows of blocks: the pieces that a span has of a row, and how pieces are mended into blocks of a good size.
+#![tactic(auto)]
+
 mod cutting;
 mod entry;
 pub mod laws;

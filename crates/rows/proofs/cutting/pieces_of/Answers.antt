@@ -6,12 +6,12 @@ use Rattle.rows.proofs.Parts.{cut_frames, cut_loose, cut_filled}
 use Rattle.rows.proofs.Places.{cut_places, cut_inside}
 use Rattle.rows.proofs.Borders.{cut_borders}
 use Rattle.rows.proofs.cutting.pieces_of.Goals as goal
-use Rattle.rows.proofs.cutting.pieces_of.Goals.{in-Some+in-ok-push, in-default}
+use Rattle.rows.proofs.cutting.pieces_of.Goals.{in-Some+in_ok-push, in_default}
 
 pub loop-entry-preserved : goal.loop-entry-preserved
 loop-entry-preserved c =
-    cut_again c.args.row.now c.loop-entry.entry-index _ c.loop-entry.start c.loop-entry.end _ _ c.part.result (vec_items c.loop-entry.out) _ _ c.loop-entry-test.true c.part.ensures c.saturating-sub-start.ensures c.saturating-sub-end.ensures
-    (elim c.match-part.branch [ in-Some+in-ok-push w ↦ ap vec_items w.out-is ∙ w.in-ok-push.ensures.items ∙ sym (ap (λ o. vec_items c.loop-entry.out ++ emit o []) w.in-Some.is) | in-default w ↦ ap vec_items w.out-is ∙ sym (append-nil _) ∙ sym (ap (λ o. vec_items c.loop-entry.out ++ emit o []) w.in-default.is) ])
+    cut_again c.args.row.now c.loop-entry.entry-index _ c.loop-entry.start c.loop-entry.end _ _ c.part.result (vec_items c.loop-entry.out) _ _ c.loop-entry-test.true c.part.ensures c.saturating_sub-start.ensures c.saturating_sub-end.ensures
+    (elim c.match-part.branch [ in-Some+in_ok-push w ↦ ap vec_items w.out-is ∙ w.in_ok-push.ensures.items ∙ sym (ap (λ o. vec_items c.loop-entry.out ++ emit o []) w.in-Some.is) | in_default w ↦ ap vec_items w.out-is ∙ sym (append-nil _) ∙ sym (ap (λ o. vec_items c.loop-entry.out ++ emit o []) w.in_default.is) ])
     c.loop-entry.invariant
 
 pub returns : goal.returns

@@ -9,15 +9,15 @@ use Rattle.rows.proofs.Turns.{mend_begin, mend_again, mend_end}
 use Rattle.rows.proofs.Keeps.{frames_kept, sizes_stand, sizes_untouched, blocks_stay}
 use Rattle.rows.proofs.Fresh.{four_new}
 use Rattle.rows.proofs.mending.mend.Goals as goal
-use Rattle.rows.proofs.mending.mend.Goals.{in-Some+in-ok-push, in-default-settled}
+use Rattle.rows.proofs.mending.mend.Goals.{in-Some+in_ok-push, in_default-settled}
 
 pub loop-next-init : goal.loop-next-init
-loop-next-init c = mend_begin c.args.limit c.args.pieces.now _ _ (search rules) c.in-ok-out.ensures.items
+loop-next-init c = mend_begin c.args.limit c.args.pieces.now _ _ (search rules) c.in_ok-out.ensures.items
 
 pub loop-next-preserved : goal.loop-next-preserved
 loop-next-preserved c =
     mend_again c.args.limit c.loop-next.last _ c.loop-next.next-index _ c.meet-met.result _ _ _ c.loop-next-test.true c.meet-met.ensures
-    (elim c.match-met.branch [ in-Some+in-ok-push w ↦ ap vec_items w.out-is ∙ w.in-ok-push.ensures.items ∙ sym (ap (λ o. vec_items c.loop-next.out ++ emit o []) w.in-Some.is) | in-default-settled w ↦ ap vec_items w.out-is ∙ sym (append-nil _) ∙ sym (ap (λ o. vec_items c.loop-next.out ++ emit o []) w.in-default-settled.is) ])
+    (elim c.match-met.branch [ in-Some+in_ok-push w ↦ ap vec_items w.out-is ∙ w.in_ok-push.ensures.items ∙ sym (ap (λ o. vec_items c.loop-next.out ++ emit o []) w.in-Some.is) | in_default-settled w ↦ ap vec_items w.out-is ∙ sym (append-nil _) ∙ sym (ap (λ o. vec_items c.loop-next.out ++ emit o []) w.in_default-settled.is) ])
     c.loop-next.invariant
 
 -- what the contract says of a list that is the mended one
@@ -32,11 +32,11 @@ kept L ps qs is = record {
   refused = tt;
 }
 
-pub returns-in-default : goal.returns-in-default
-returns-in-default c =
+pub returns-in_default : goal.returns-in_default
+returns-in_default c =
     let none : length c.args.pieces.now ≡ 0 = search rules in
     kept c.args.limit c.args.pieces.now _ (c.new.ensures.items ∙ sym (ap (mended c.args.limit) (nil_from_length c.args.pieces.now none)))
 
 pub returns : goal.returns
 returns c =
-    kept c.args.limit c.args.pieces.now _ (c.in-ok-push-2.ensures.items ∙ mend_end c.args.limit _ _ _ _ _ c.loop-next-test.false c.loop-next.invariant)
+    kept c.args.limit c.args.pieces.now _ (c.in_ok-push-2.ensures.items ∙ mend_end c.args.limit _ _ _ _ _ c.loop-next-test.false c.loop-next.invariant)
