@@ -5,10 +5,10 @@ use Rattle.slot_stores.proofs.Numbered.{numbered_same}
 use Rattle.slot_stores.proofs.memory.MemoryStore.new.Goals as goal
 
 pub invariant_of-result : goal.invariant_of-result
-invariant_of-result g c = (
-  c.slot_count-slots.ensures ∙ ap (count_of_slots c.args.limit c.args.limit) c.len.ensures,
-  ((λ n. omega (arith, c.no_lengths-lengths.ensures n)), tt),
-)
+invariant_of-result g c = record {
+  whole = c.slot_count-slots.ensures ∙ ap (count_of_slots c.args.limit c.args.limit) c.len.ensures;
+  sized = λ n. omega (arith, c.no_lengths-lengths.ensures n);
+}
 
 pub returns : goal.returns
 returns g c =

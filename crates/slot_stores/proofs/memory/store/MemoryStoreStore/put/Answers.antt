@@ -49,10 +49,11 @@ overflow_cast-self g c =
 pub invariant_of-self : goal.invariant_of-self
 invariant_of-self g c =
     let s = c.args.self.now in
-    let p = place_slot s (length c.args.frames.now) c.in-Ok.place c.in-Ok.ensures in (
-      s.whole ∙ ap (count_of_slots s.limit s.limit) (sym c.overwrite.ensures.len),
-      (set_below s.lengths c.in-Ok.place _ s.limit (omega (arith, p.1)) s.sized, tt),
-    )
+    let p = place_slot s (length c.args.frames.now) c.in-Ok.place c.in-Ok.ensures in
+    record {
+      whole = s.whole ∙ ap (count_of_slots s.limit s.limit) (sym c.overwrite.ensures.len);
+      sized = set_below s.lengths c.in-Ok.place _ s.limit (omega (arith, p.1)) s.sized;
+    }
 
 pub returns : goal.returns
 returns g c =
