@@ -129,6 +129,10 @@ module _ {F : Type 0} where
     pub ailing : m'.ailing ≡ m.ailing
     pub well : 0 < length ps → m.ailing ≡ false
 
+  -- before the first
+  pub putting_none : {m : Meaning F} → Putting m [] [] m
+  putting_none = record { placed = refl; limit = refl; ailing = refl; well = λ some. absurd (omega arith) }
+
   -- one block more
   pub putting_more : {m m₁ : Meaning F} {ps : List (List F)} {ns : List ℕ} → Putting m ps ns m₁ → (n : ℕ) (p : List F) (m₂ : Meaning F) → 0 < length p → n < capacity m₁ → block m₁ n ≡ [] → m₂ ≡ holding m₁ n p → m₁.ailing ≡ false → Putting m (ps ++ p ∷ []) (ns ++ n ∷ []) m₂
   putting_more {m} {m₁} {ps} {ns} w n p m₂ some h free e well =

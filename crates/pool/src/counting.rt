@@ -50,7 +50,7 @@ impl<S: Store> Pool<S> {
         ensures len { vec_len self.new.counts ≡ vec_len self.old.counts }
         ensures counts { (n : ℕ) → slice_index self.new.counts.items n ≡ slice_index self.old.counts.items n - naming n entries.now }
         ensures freed { Freed (S.Store.meaning self.old.store) self.old.counts.items (S.Store.meaning self.new.store) self.new.counts.items }
-        ensures keeps { Kept (frame_summary Kind-as-Frame.least Kind-as-Frame.greatest Kind-as-Frame.narrow Kind-as-Frame.power Kind-as-Frame.clips) (S.Store.meaning self.old.store) self.old.kept.items → Kept (frame_summary Kind-as-Frame.least Kind-as-Frame.greatest Kind-as-Frame.narrow Kind-as-Frame.power Kind-as-Frame.clips) (S.Store.meaning self.new.store) self.new.kept.items }
+        ensures keeps { Kept (frame_summary S.Kind.Frame.least S.Kind.Frame.greatest S.Kind.Frame.narrow S.Kind.Frame.power S.Kind.Frame.clips) (S.Store.meaning self.old.store) self.old.kept.items → Kept (frame_summary S.Kind.Frame.least S.Kind.Frame.greatest S.Kind.Frame.narrow S.Kind.Frame.power S.Kind.Frame.clips) (S.Store.meaning self.new.store) self.new.kept.items }
     {
         for entry in entries {
             self.lower(entry.block);

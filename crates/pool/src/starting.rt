@@ -29,7 +29,7 @@ impl<S: Store> Pool<S> {
         ensures store { self.new.store ≡ self.old.store }
         ensures counts { MatchResult result (λ _. self.new.counts.items ≡ replicate (capacity (S.Store.meaning self.old.store)) 0) (λ _. self.new.counts ≡ self.old.counts) }
         ensures kept { MatchResult result (λ _. self.new.kept.items ≡ replicate (capacity (S.Store.meaning self.old.store)) no_summary) (λ _. self.new.kept ≡ self.old.kept) }
-        ensures keeps { OnOk result (((n : ℕ) → block (S.Store.meaning self.old.store) n ≡ []) → Kept (frame_summary Kind-as-Frame.least Kind-as-Frame.greatest Kind-as-Frame.narrow Kind-as-Frame.power Kind-as-Frame.clips) (S.Store.meaning self.new.store) self.new.kept.items) }
+        ensures keeps { OnOk result (((n : ℕ) → block (S.Store.meaning self.old.store) n ≡ []) → Kept (frame_summary S.Kind.Frame.least S.Kind.Frame.greatest S.Kind.Frame.narrow S.Kind.Frame.power S.Kind.Frame.clips) (S.Store.meaning self.new.store) self.new.kept.items) }
     {
         let count = self.store.capacity();
         let counts = vec![in heap; 0u32; count]?;

@@ -12,7 +12,7 @@ pub struct ReadFault {
 
 // A stretch that is not gathered tells the store's fault alone.
 impl From<ReadFault> for StoreFault {
-    ghost from_gives = { λ read fault. fault ≡ read.fault };
+    ghost from_gives = { λ failed told. told ≡ failed.fault };
 
     fn from(read: ReadFault) -> StoreFault {
         read.fault

@@ -25,7 +25,7 @@ loop-entry-preserved g c =
 
 pub returns : goal.returns
 returns g c =
-    let k = g.Kind.Frame in
+    let k = g.S.Kind.Frame in
     let worth = frame_summary k.least k.greatest k.narrow k.power k.clips in
     let m = g.S.Store.meaning c.args.self.now.store in
     let m' = g.S.Store.meaning c.loop-entry.self.store in

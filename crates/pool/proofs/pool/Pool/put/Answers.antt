@@ -8,7 +8,7 @@ use Rattle.pool.proofs.pool.Pool.put.Goals as goal
 
 pub returns-in_err-number : goal.returns-in_err-number
 returns-in_err-number g c =
-    let k = g.Kind.Frame in
+    let k = g.S.Kind.Frame in
     let worth = frame_summary k.least k.greatest k.narrow k.power k.clips in
     let m = g.S.Store.meaning c.args.self.now.store in
     let m' = g.S.Store.meaning c.put.new.self in
@@ -21,7 +21,7 @@ returns-in_err-number g c =
 
 pub returns-then-number-len : goal.returns-then-number-len
 returns-then-number-len g c =
-    let k = g.Kind.Frame in
+    let k = g.S.Kind.Frame in
     let worth = frame_summary k.least k.greatest k.narrow k.power k.clips in
     let m = g.S.Store.meaning c.args.self.now.store in
     let m' = g.S.Store.meaning c.put.new.self in
@@ -38,7 +38,7 @@ returns-then-number-len g c =
 
 pub returns-else-number-len : goal.returns-else-number-len
 returns-else-number-len g c =
-    let k = g.Kind.Frame in
+    let k = g.S.Kind.Frame in
     let worth = frame_summary k.least k.greatest k.narrow k.power k.clips in
     let m = g.S.Store.meaning c.args.self.now.store in
     let m' = g.S.Store.meaning c.put.new.self in

@@ -1,14 +1,26 @@
-use Rattle.std.proofs.Common.{◌≡◌, ℕ, ◌<◌, List, map, length, vec_items, sym, ap, ◌∙◌, subst, arith, take_all}
+use Rattle.std.proofs.Common.{◌≡◌, ℕ, ◌<◌, List, [], refl, map, length, vec_items, sym, ap, ◌∙◌, subst, arith, take_all}
 use Rattle.std.specs.List.{AllByRecursion as All}
 use Rattle.stores.specs.Meaning.{capacity, block}
 use Rattle.reading.specs.Faults.{after}
 use Rattle.reading.specs.Stretches.{sequence}
 use Rattle.pool.specs.declared.cut.Cut.{Cut}
 use Rattle.pool.specs.Blocks.{cutout, Stored}
-use Rattle.pool.proofs.Placing.{Putting, putting_back, putting_keeps, putting_below, stored}
+use Rattle.pool.proofs.Placing.{Putting, putting_none, putting_back, putting_keeps, putting_below, stored}
 use Rattle.pool.proofs.Stays.{rows_stay}
 use Rattle.pool.proofs.NextBlock.{more, stopped}
 use Rattle.pool.proofs.pool.Pool.put_blocks.Goals as goal
+
+pub loop-cut-init : goal.loop-cut-init
+loop-cut-init g c =
+    let m = g.S.Store.meaning c.args.self.now.store in
+    let none : vec_items c.reserve.new.self ≡ [] = c.reserve.ensures.items ∙ c.clear.ensures.items in
+    let P : List ℕ → Type 0 = λ z. Putting m [] z m in (
+      c.reserve.ensures.len ∙ c.clear.ensures.len,
+      omega (arith, c.in_ok-reserve.ensures.ok, c.clear.ensures.len),
+      ([], refl, subst P (sym none) putting_none, λ sound fits. refl),
+      refl,
+      λ before. before,
+    )
 
 pub returns-in-Err : goal.returns-in-Err
 returns-in-Err g c =

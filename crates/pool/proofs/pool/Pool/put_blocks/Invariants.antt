@@ -8,7 +8,7 @@ use Rattle.pool.proofs.pool.Pool.put_blocks.Given as goal
 
 abbrev pub invariant-loop-cut : goal.invariant-loop-cut
 invariant-loop-cut g l =
-    let k = g.Kind.Frame in
+    let k = g.S.Kind.Frame in
     let worth = frame_summary k.least k.greatest k.narrow k.power k.clips in
     let m = g.S.Store.meaning l.initial.self.store in
     let m' = g.S.Store.meaning l.self.store in

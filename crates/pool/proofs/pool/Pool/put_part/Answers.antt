@@ -12,7 +12,7 @@ use Rattle.pool.proofs.pool.Pool.put_part.Goals as goal
 
 pub returns : goal.returns
 returns g c =
-    let k = g.Kind.Frame in
+    let k = g.S.Kind.Frame in
     let worth = frame_summary k.least k.greatest k.narrow k.power k.clips in
     let m = g.S.Store.meaning c.args.self.now.store in
     let seq = sequence m c.args.stretches.now in
@@ -34,7 +34,7 @@ returns g c =
 
 pub returns-in_err-gather : goal.returns-in_err-gather
 returns-in_err-gather g c =
-    let k = g.Kind.Frame in
+    let k = g.S.Kind.Frame in
     let worth = frame_summary k.least k.greatest k.narrow k.power k.clips in
     let n = c.min-count.result in
     let ss = c.args.stretches.now in

@@ -9,7 +9,7 @@ use Rattle.pool.proofs.pool.Pool.take_back.Goals as goal
 
 pub loop-number-preserved : goal.loop-number-preserved
 loop-number-preserved g c =
-    let k = g.Kind.Frame in
+    let k = g.S.Kind.Frame in
     let worth = frame_summary k.least k.greatest k.narrow k.power k.clips in
     let m = g.S.Store.meaning c.loop-number.self.store in
     let m' = g.S.Store.meaning c.release.new.self in
