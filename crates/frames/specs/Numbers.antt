@@ -4,7 +4,7 @@ use Rattle.std.proofs.Common.{ap, ◌∙◌, pow-suc, div-add-mod', mod-eq_of_lt
 use Rattle.std.proofs.Math.Nat.{pow-zero}
 use Rattle.std.proofs.Math.Arith.{digits_lt, digits_div, digits_mod}
 use Rattle.std.specs.Int.Signed.{mag}
-use Rattle.std.specs.List.{AllByRecursion as All}
+use Rattle.std.specs.List.{AllByRecursion}
 use Rattle.std.proofs.lemmas.Bool.{cond-true, cond-false, cond_both, lt-ltb, le-ltb}
 use Rattle.std.proofs.lemmas.Nat.{div_below}
 use Rattle.frames.specs.Twos.{unsigned, signed}
@@ -16,11 +16,11 @@ number_digits b (suc k) n p small =
     let fits : n < b ^ k * b = rw pow-suc at small in
     ap (λ q. q * b + n % b) (number_digits b k (n / b) p (div_below n b (b ^ k) p fits)) ∙ div-add-mod' n b
 
-pub number_lt : (b : ℕ) (ds : List ℕ) → All (λ d. d < b) ds → number b ds < b ^ length ds
+pub number_lt : (b : ℕ) (ds : List ℕ) → AllByRecursion (λ d. d < b) ds → number b ds < b ^ length ds
 number_lt b [] h = omega (arith, pow-zero b)
 number_lt b (d ∷ ds) h = rw pow-suc (digits_lt (number_lt b ds h.1) h.0)
 
-pub digits_number : (b : ℕ) (ds : List ℕ) → All (λ d. d < b) ds → digits b (length ds) (number b ds) ≡ ds
+pub digits_number : (b : ℕ) (ds : List ℕ) → AllByRecursion (λ d. d < b) ds → digits b (length ds) (number b ds) ≡ ds
 digits_number b [] h = refl
 digits_number b (d ∷ ds) h =
     ap (λ x. x ∷ digits b (length ds) ((number b ds * b + d) / b)) (digits_mod (number b ds) h.0)

@@ -2,7 +2,7 @@
 use Rattle.std.specs.Prelude.{◌≡◌, ℕ, ◌+◌, ◌*◌, ◌%◌, ◌^◌, ◌<◌, ◌≤◌, List, length, ℤ, pos, negsuc, Some}
 use Rattle.std.proofs.Common.{sym, ap, subst, ◌∙◌, mul-le-mul, arith}
 use Rattle.std.specs.Int.Signed.{mag}
-use Rattle.std.specs.List.{AllByRecursion as All}
+use Rattle.std.specs.List.{AllByRecursion}
 use Rattle.frames.specs.Twos.{unsigned, signed}
 use Rattle.frames.specs.Digits.{digits, number}
 use Rattle.frames.specs.Hex.{hexed, hex_number}
@@ -19,7 +19,7 @@ sample_decodes h k z e f =
     ∙ wrapped h (unsigned h z) small
     ∙ signed_unsigned h z f
 
-pub sample_encodes : (h k : ℕ) (bs : List ℕ) → h + h ≡ 256 ^ k → length bs ≡ k → All (λ b. b < 256) bs → sample_bytes h k (signed h (number 256 bs % (h + h))) ≡ bs
+pub sample_encodes : (h k : ℕ) (bs : List ℕ) → h + h ≡ 256 ^ k → length bs ≡ k → AllByRecursion (λ b. b < 256) bs → sample_bytes h k (signed h (number 256 bs % (h + h))) ≡ bs
 sample_encodes h k bs e l all =
     let below : number 256 bs < 256 ^ length bs = number_lt 256 bs all in
     let fits : number 256 bs < h + h = subst (λ n. number 256 bs < n) (ap (λ m. 256 ^ m) l ∙ sym e) below in

@@ -6,7 +6,7 @@ use Rattle.std.specs.Int.Signed.{mag}
 use mir.Val.{to_z, sel}
 use Rattle.std.specs.Int.{w16}
 use Rattle.std.specs.Option.{option_map}
-use Rattle.std.specs.List.{AllByRecursion as All}
+use Rattle.std.specs.List.{AllByRecursion}
 use Rattle.std.proofs.ByRecursion.{All-take, All-drop}
 use Rattle.std.proofs.lemmas.Bool.{cond-true, eq-eqb, eqb-true}
 use Rattle.frames.specs.Twos.{unsigned}
@@ -37,7 +37,7 @@ pub bytes_read : (bs : List ℕ) (x : Mono) → length bs ≡ 2 → Some x ≡ c
 bytes_read bs x l read = let e = cond-true _ (Some (mono_from bs)) None (eq-eqb (length bs) 2 l) in cc
 
 -- what two bytes make
-pub bytes_cast : (bs : List ℕ) → length bs ≡ 2 → All (λ b. b < 256) bs → (mono_from bs).value ≡ to_z w16 (slice_index bs 0 + slice_index bs 1 * 256)
+pub bytes_cast : (bs : List ℕ) → length bs ≡ 2 → AllByRecursion (λ b. b < 256) bs → (mono_from bs).value ≡ to_z w16 (slice_index bs 0 + slice_index bs 1 * 256)
 bytes_cast [] l all = absurd (omega arith)
 bytes_cast (a ∷ []) l all = absurd (omega arith)
 bytes_cast (a ∷ b ∷ []) l all =
@@ -48,7 +48,7 @@ bytes_cast (a ∷ b ∷ c ∷ bs) l all = absurd (omega arith)
 pub mono_decodes : (x : Mono) → mono_from (mono_bytes x) ≡ x
 mono_decodes x = same_mono _ x (sample_decodes (2 ^ 15) 2 x.value refl x.fits)
 
-pub mono_encodes : (bs : List ℕ) → length bs ≡ 2 → All (λ b. b < 256) bs → mono_bytes (mono_from bs) ≡ bs
+pub mono_encodes : (bs : List ℕ) → length bs ≡ 2 → AllByRecursion (λ b. b < 256) bs → mono_bytes (mono_from bs) ≡ bs
 mono_encodes bs l all = sample_encodes (2 ^ 15) 2 bs refl l all
 
 pub mono_bounded : (x : Mono) → square x.value ≤ 2 ^ 30
@@ -84,7 +84,7 @@ mono_spells text x e =
 pub same_stereo : (x y : Stereo) → x.left ≡ y.left → x.right ≡ y.right → x ≡ y
 same_stereo x y p q = ap (λ l. stereo_of l x.right) p ∙ ap (stereo_of y.left) q
 
-pub stereo_encodes : (bs : List ℕ) → length bs ≡ 4 → All (λ b. b < 256) bs → stereo_bytes (stereo_from bs) ≡ bs
+pub stereo_encodes : (bs : List ℕ) → length bs ≡ 4 → AllByRecursion (λ b. b < 256) bs → stereo_bytes (stereo_from bs) ≡ bs
 stereo_encodes bs l all =
     ap (λ ys. ys ++ mono_bytes (mono_from (drop 2 bs))) (mono_encodes (take 2 bs) (omega (arith, length-take 2 bs)) (All-take (λ b. b < 256) 2 bs all))
     ∙ ap (λ ys. take 2 bs ++ ys) (mono_encodes (drop 2 bs) (omega (arith, length-drop 2 bs)) (All-drop (λ b. b < 256) 2 bs all))

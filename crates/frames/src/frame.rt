@@ -1,7 +1,7 @@
 // What every kind of frame offers, and the laws that it shows.
 ghost use Rattle.std.specs.Prelude.{◌≡◌, ℕ, ◌+◌, ◌^◌, ◌<◌, ◌≤◌, Bool, List, length, ℤ, if◌then◌else◌, Some, None, Option, nat_eq};
 ghost use Rattle.std.specs.Int.Signed.{mag};
-ghost use Rattle.std.specs.List.{AllByRecursion as All};
+ghost use Rattle.std.specs.List.{AllByRecursion};
 ghost use Rattle.frames.specs.Written.{Written};
 
 // The buffer has no room for what was to be written, and is unchanged.
@@ -78,11 +78,11 @@ pub trait Frame: Copy + Drop {
 
     ghost sized: { (x : Self) → length (encoded x) ≡ wide };
 
-    ghost bytes: { (x : Self) → All (λ b. b < 256) (encoded x) };
+    ghost bytes: { (x : Self) → AllByRecursion (λ b. b < 256) (encoded x) };
 
     ghost decodes: { (x : Self) → decoded (encoded x) ≡ x };
 
-    ghost encodes: { (bs : List ℕ) → length bs ≡ wide → All (λ b. b < 256) bs → encoded (decoded bs) ≡ bs };
+    ghost encodes: { (bs : List ℕ) → length bs ≡ wide → AllByRecursion (λ b. b < 256) bs → encoded (decoded bs) ≡ bs };
 
     ghost spans: { (x : Self) → length (line x) ≡ wide + wide };
 

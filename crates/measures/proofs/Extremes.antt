@@ -2,7 +2,7 @@
 use Rattle.std.proofs.Common.{◌≡◌, ◌^◌, ◌<◌, ◌⊎◌, List, [], ◌∷◌, ℤ, pos, negsuc, ◌≤ℤ◌, sym, refl, ap, ◌∙◌, subst, inl, inr, ⊎_elim, arith}
 use lib.Signed.{mag, lt_z}
 use Rattle.std.specs.Int.{int_max, int_min}
-use Rattle.std.specs.List.{AllByRecursion as All}
+use Rattle.std.specs.List.{AllByRecursion}
 use Rattle.std.proofs.lemmas.Int.{ints, clamps}
 use Rattle.std.proofs.lemmas.Bool.{cond_both}
 use Rattle.measures.specs.Measured.{measured}
@@ -13,7 +13,7 @@ use Rattle.measures.specs.Ends.{min_top_right, max_end_right}
 
 -- of two numbers `pick` takes the one that stands in the order R to both; `end` is never taken
 module _ (R : ℤ → ℤ → Type 0) (pick : ℤ → ℤ → ℤ) (end : ℤ) (first : (a b : ℤ) → R (pick a b) a) (second : (a b : ℤ) → R (pick a b) b) (steps : (a b c : ℤ) → R a b → R b c → R a c) (either : (a b : ℤ) → (pick a b ≡ a) ⊎ (pick a b ≡ b)) where
-  further : {K : Type 0} (number : K → ℤ) (v w : ℤ) → R v w → (xs : List K) → All (λ x. R w (number x)) xs → All (λ x. R v (number x)) xs
+  further : {K : Type 0} (number : K → ℤ) (v w : ℤ) → R v w → (xs : List K) → AllByRecursion (λ x. R w (number x)) xs → AllByRecursion (λ x. R v (number x)) xs
   further number v w le [] all = tt
   further number v w le (x ∷ xs) all = (steps v w (number x) le all.0, further number v w le xs all.1)
 

@@ -1,6 +1,6 @@
 -- The four numbers of a clip run are the lengths that they are said to be. Assumes nothing.
 use Rattle.std.proofs.Common.{◌≡◌, ℕ, ◌+◌, ◌^◌, ◌≤◌, max, Bool, true, false, cond, eqb, List, [], ◌∷◌, ◌++◌, length, sym, refl, ap, ◌∙◌, subst, ⊎_elim, arith, length-append}
-use Rattle.std.specs.List.{AllByRecursion as All}
+use Rattle.std.specs.List.{AllByRecursion}
 use Rattle.std.proofs.lemmas.Bool.{cond-true, cond_both, cases_lt, eq-eqb, eqb-true}
 use Rattle.measures.specs.Measured.{measured}
 use Rattle.measures.specs.Runs.{Run, after, of_frame}
@@ -31,7 +31,7 @@ module _ {K : Type 0} where
 
 module _ {K : Type 0} (clips : K → Bool) where
   abbrev Clipped : List K → Type 0
-  Clipped part = All (λ y. clips y ≡ true) part
+  Clipped part = AllByRecursion (λ y. clips y ≡ true) part
 
   never : (x : K) → clips x ≡ true → clips x ≡ false → ⊥
   never x t f = let z : true ≡ false = sym t ∙ f in absurd (let n : ◌≡◌ {A = ℕ} 0 1 = cc in omega arith)

@@ -1,6 +1,6 @@
 -- What the three measures mean of a list of frames, in words of the list alone.
 use Rattle.std.specs.Prelude.{◌≡◌, ℕ, ◌<◌, ◌≤◌, Bool, true, List, ◌∷◌, ◌++◌, length, ℤ, ◌≤ℤ◌}
-use Rattle.std.specs.List.{AllByRecursion as All}
+use Rattle.std.specs.List.{AllByRecursion}
 use Rattle.measures.specs.declared.extent.Extent.{Extent}
 use Rattle.measures.specs.Runs.{Run}
 
@@ -11,7 +11,7 @@ module _ {K : Type 0} where
 
   -- v stands in an order R to the number of every frame, and is the number of one of them
   abbrev pub Extreme : (ℤ → ℤ → Type 0) → (K → ℤ) → List K → ℤ → Type 0
-  Extreme R number frames v = All (λ x. R v (number x)) frames × ((x : K) × Among frames x × (v ≡ number x))
+  Extreme R number frames v = AllByRecursion (λ x. R v (number x)) frames × ((x : K) × Among frames x × (v ≡ number x))
 
   -- the low is at most every frame's low and is one of them, the high alike
   abbrev pub Reaches : (K → ℤ) → (K → ℤ) → List K → Extent → Type 0
@@ -32,8 +32,8 @@ module _ {K : Type 0} where
     -- n is the length of the longest such stretch of frames that are all clipped: there is one, and none is longer
     abbrev pub Longest : (List K → Type 0) → ℕ → Type 0
     Longest Lies n =
-        ((part : List K) × Lies part × All (λ x. clips x ≡ true) part × (length part ≡ n))
-        × ((part : List K) → Lies part → All (λ x. clips x ≡ true) part → length part ≤ n)
+        ((part : List K) × Lies part × AllByRecursion (λ x. clips x ≡ true) part × (length part ≡ n))
+        × ((part : List K) → Lies part → AllByRecursion (λ x. clips x ≡ true) part → length part ≤ n)
 
     -- what the four numbers of a clip run tell
     pub record Tells (frames : List K) (run : Run) : Type 0 where

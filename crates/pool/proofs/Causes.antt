@@ -1,6 +1,6 @@
 -- Why a block was not put. Assumes nothing.
 use Rattle.std.proofs.Common.{◌≡◌, ℕ, ◌+◌, ◌<◌, Bool, true, false, cond, ◌||◌, eqb, ltb, ◌⊎◌, List, length, Some, None, Ok, Err, Result, sym, refl, ap, ◌∙◌, subst, inl, inr, ⊎_elim, arith}
-use Rattle.std.specs.List.{ContainsAt as Has}
+use Rattle.std.specs.List.{ContainsAt}
 use Rattle.std.proofs.lemmas.Bool.{cases_Bool, cond-true, cond-false, or_cases, eqb-true, ltb-true}
 use Rattle.stores.specs.declared.fault.StoreError.TheVariants.{Ailing, BadLength, Full, Failed}
 use Rattle.stores.specs.declared.fault.StoreFault.{StoreFault}
@@ -34,7 +34,7 @@ module _ {F : Type 0} where
       by_result m ss c (Ok n) m' h = h
       by_result m ss c (Err f) m' h = inr h
 
-  module _ (m : Meaning F) (ss : List (Stretch F)) (cuts : List Cut) (c : Cut) (has : Has cuts c) where
+  module _ (m : Meaning F) (ss : List (Stretch F)) (cuts : List Cut) (c : Cut) (has : ContainsAt cuts c) where
     abbrev Causes : StoreFault → Type 0
     Causes f = Cause m ss cuts f.error f.block
 

@@ -1,6 +1,6 @@
 -- Blocks put one after another, each at a free number, and taken out again. Assumes nothing.
 use Rattle.std.proofs.Common.{◌≡◌, ℕ, zero, suc, ◌+◌, ◌<◌, Bool, false, ◌≢◌, List, [], ◌∷◌, ◌++◌, length, get_or, set, Ok, Err, Result, sym, refl, ap, ◌∙◌, subst, arith}
-use Rattle.std.specs.List.{AllByRecursion as All}
+use Rattle.std.specs.List.{AllByRecursion}
 use Rattle.std.proofs.lemmas.List.{length-set, get_or-set_same, get_or-set_other, set-set, set-get_or, nil_from_length}
 use Rattle.std.proofs.ByRecursion.{All-weaker}
 use Rattle.std.proofs.lemmas.Bool.Decides.{nat_tests}
@@ -47,7 +47,7 @@ module _ {F : Type 0} where
   placed_size bs (p ∷ ps) (n ∷ ns) bs' e = placed_size (set bs n p) ps ns bs' e.3 ∙ length-set bs n p
 
   -- no part is empty
-  placed_full : (bs ps : List (List F)) (ns : List ℕ) (bs' : List (List F)) → Placed bs ps ns bs' → All (λ p. 0 < length p) ps
+  placed_full : (bs ps : List (List F)) (ns : List ℕ) (bs' : List (List F)) → Placed bs ps ns bs' → AllByRecursion (λ p. 0 < length p) ps
   placed_full bs [] [] bs' e = tt
   placed_full bs [] (n ∷ ns) bs' e = absurd e
   placed_full bs (p ∷ ps) [] bs' e = absurd e
@@ -70,14 +70,14 @@ module _ {F : Type 0} where
       let same : get_or (set bs n p) k [] ≡ get_or bs k [] = get_or-set_other bs n k p [] (other bs k n some e.2) in
       placed_keeps (set bs n p) ps ns bs' e.3 k (omega (arith, ap length same)) ∙ same
 
-  placed_others : (bs ps : List (List F)) (ns : List ℕ) (bs' : List (List F)) → Placed bs ps ns bs' → (k : ℕ) → All (λ n. n ≡ k → ⊥) ns → get_or bs' k [] ≡ get_or bs k []
+  placed_others : (bs ps : List (List F)) (ns : List ℕ) (bs' : List (List F)) → Placed bs ps ns bs' → (k : ℕ) → AllByRecursion (λ n. n ≡ k → ⊥) ns → get_or bs' k [] ≡ get_or bs k []
   placed_others bs [] [] bs' e k apart = ap (λ z. get_or z k []) e
   placed_others bs [] (n ∷ ns) bs' e k apart = absurd e
   placed_others bs (p ∷ ps) [] bs' e k apart = absurd e
   placed_others bs (p ∷ ps) (n ∷ ns) bs' e k apart = placed_others (set bs n p) ps ns bs' e.3 k apart.1 ∙ get_or-set_other bs n k p [] (λ same. apart.0 (sym same))
 
   -- the numbers were free
-  placed_free : (bs ps : List (List F)) (ns : List ℕ) (bs' : List (List F)) → Placed bs ps ns bs' → All (λ n. (n < length bs) × (get_or bs n [] ≡ [])) ns
+  placed_free : (bs ps : List (List F)) (ns : List ℕ) (bs' : List (List F)) → Placed bs ps ns bs' → AllByRecursion (λ n. (n < length bs) × (get_or bs n [] ≡ [])) ns
   placed_free bs [] [] bs' e = tt
   placed_free bs [] (n ∷ ns) bs' e = absurd e
   placed_free bs (p ∷ ps) [] bs' e = absurd e
@@ -89,7 +89,7 @@ module _ {F : Type 0} where
       ((e.1, e.2), All-weaker P Q conv ns (placed_free (set bs n p) ps ns bs' e.3))
 
   -- the numbers differ from each number that was taken
-  placed_apart : (bs ps : List (List F)) (ns : List ℕ) (bs' : List (List F)) → Placed bs ps ns bs' → (k : ℕ) → 0 < length (get_or bs k []) → All (λ n. n ≡ k → ⊥) ns
+  placed_apart : (bs ps : List (List F)) (ns : List ℕ) (bs' : List (List F)) → Placed bs ps ns bs' → (k : ℕ) → 0 < length (get_or bs k []) → AllByRecursion (λ n. n ≡ k → ⊥) ns
   placed_apart bs [] [] bs' e k some = tt
   placed_apart bs [] (n ∷ ns) bs' e k some = absurd e
   placed_apart bs (p ∷ ps) [] bs' e k some = absurd e
@@ -153,7 +153,7 @@ module _ {F : Type 0} where
     pub putting_vacant : vacant m.blocks ≡ vacant m₁.blocks + length ps
     putting_vacant = placed_vacant m.blocks ps ns m₁.blocks w.placed
 
-    pub putting_below : All (λ n. n < capacity m) ns
+    pub putting_below : AllByRecursion (λ n. n < capacity m) ns
     putting_below =
         let P : ℕ → Type 0 = λ n. (n < capacity m) × (block m n ≡ []) in
         let Q : ℕ → Type 0 = λ n. n < capacity m in

@@ -1,6 +1,6 @@
 -- What putting several new blocks does to a store. Assumes nothing.
 use Rattle.std.specs.Prelude.{◌≡◌, ℕ, ◌+◌, ◌<◌, ◌≤◌, true, false, ◌⊎◌, List, [], ◌∷◌, map, length, take, drop, Some, None, Ok, Err, Option, Result, ◌≢◌, slice_set}
-use Rattle.std.specs.List.{ContainsAt as Has, AllByRecursion as All}
+use Rattle.std.specs.List.{ContainsAt, AllByRecursion}
 use Rattle.stores.specs.declared.fault.StoreError.{StoreError}
 use Rattle.stores.specs.declared.fault.StoreError.TheVariants.{Ailing, NoBlock, BeyondBlock, BadLength, Full, Failed}
 use Rattle.stores.specs.declared.fault.StoreFault.{StoreFault}
@@ -16,7 +16,7 @@ use Rattle.reading.specs.Stretches.{sequence, source, Among, Misses}
 -- no number stands twice in a list
 abbrev pub Distinct : List ℕ → Type 0
 Distinct [] = Unit {0}
-Distinct (n ∷ ns) = All (λ k. k ≢ n) ns × Distinct ns
+Distinct (n ∷ ns) = AllByRecursion (λ k. k ≢ n) ns × Distinct ns
 
 -- a cut lies within a sequence of so many frames, and within the work buffer's room
 abbrev pub CutFits : ℕ → ℕ → Cut → Type 0
@@ -24,7 +24,7 @@ CutFits room len c = (c.len ≤ room) × (c.at + c.len ≤ len)
 
 -- and so does every cut
 abbrev pub CutsFit : ℕ → ℕ → List Cut → Type 0
-CutsFit room len cuts = All (CutFits room len) cuts
+CutsFit room len cuts = AllByRecursion (CutFits room len) cuts
 
 module _ {F : Type 0} where
   -- the frames of a new block
@@ -64,11 +64,11 @@ module _ {F : Type 0} where
     pub ailing : m'.ailing ≡ m.ailing
     pub size : capacity m' ≡ capacity m
     pub well : 0 < length ps → m.ailing ≡ false
-    pub full : All (λ p. 0 < length p) ps
+    pub full : AllByRecursion (λ p. 0 < length p) ps
     pub distinct : Distinct ns
-    pub free : All (λ n. (n < capacity m) × (block m n ≡ [])) ns
+    pub free : AllByRecursion (λ n. (n < capacity m) × (block m n ≡ [])) ns
     pub holds : Holds m' ns ps
-    pub others : (n : ℕ) → All (λ k. k ≢ n) ns → block m' n ≡ block m n
+    pub others : (n : ℕ) → AllByRecursion (λ k. k ≢ n) ns → block m' n ≡ block m n
 
   -- Whatever the stretches are: done, there is a number for each cut, and it holds some block;
   -- not done, there is none, and the store is as it was but for its health. Memory is wanting only
@@ -81,14 +81,14 @@ module _ {F : Type 0} where
   -- the block that a fault is about: one with frames in a new block, or none at a put
   abbrev pub About : List (Stretch F) → List Cut → Option ℕ → Type 0
   About ss cuts None = 0 < length cuts
-  About ss cuts (Some b) = (c : Cut) × Has cuts c × Among (source ss) c.at c.len b
+  About ss cuts (Some b) = (c : Cut) × ContainsAt cuts c × Among (source ss) c.at c.len b
 
   -- What an error tells of the store before, and of the block that the fault is about.
   abbrev pub Cause : Meaning F → List (Stretch F) → List Cut → StoreError → Option ℕ → Type 0
   Cause m ss cuts Ailing b = (m.ailing ≡ true) × About ss cuts b
   Cause m ss cuts NoBlock b = ⊥
   Cause m ss cuts BeyondBlock b = ⊥
-  Cause m ss cuts BadLength b = (m.ailing ≡ false) × (b ≡ None) × ((c : Cut) × Has cuts c × ((c.len ≡ 0) ⊎ (m.limit < c.len)))
+  Cause m ss cuts BadLength b = (m.ailing ≡ false) × (b ≡ None) × ((c : Cut) × ContainsAt cuts c × ((c.len ≡ 0) ⊎ (m.limit < c.len)))
   Cause m ss cuts Full b = (m.ailing ≡ false) × (b ≡ None) × (vacant m.blocks < length cuts)
   Cause m ss cuts Failed b = (m.ailing ≡ false) × About ss cuts b
 

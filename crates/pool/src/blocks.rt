@@ -1,6 +1,6 @@
 // New blocks: the frames of joined stretches, put part by part, or nothing put at all.
 ghost use Rattle.std.specs.Prelude.{◌≡◌, ◌<◌, [], length, vec_capacity};
-ghost use Rattle.std.specs.List.{AllByRecursion as All};
+ghost use Rattle.std.specs.List.{AllByRecursion};
 ghost use Rattle.measures.specs.Summaries.{frame_summary};
 ghost use Rattle.stores.specs.Meaning.{capacity};
 ghost use Rattle.reading.specs.Rows.{RowsStay};
@@ -26,7 +26,7 @@ impl<S: Store> Pool<S> {
         work: &mut [S::Kind],
         numbers: &mut Vec<usize>,
     ) -> Result<(), PutFault>
-        ensures below { All (λ n. n < capacity (S.Store.meaning self.old.store)) numbers.new.items }
+        ensures below { AllByRecursion (λ n. n < capacity (S.Store.meaning self.old.store)) numbers.new.items }
         ensures store { Keeps (vec_capacity numbers.old) (S.Store.meaning self.old.store) cuts.now result numbers.new.items (S.Store.meaning self.new.store) }
         ensures told { AllSound (S.Store.meaning self.old.store) stretches.now → CutsFit (length work.old) (length (sequence (S.Store.meaning self.old.store) stretches.now)) cuts.now → PutsAll (S.Store.meaning self.old.store) stretches.now cuts.now result numbers.new.items (S.Store.meaning self.new.store) }
         ensures rows { RowsStay (S.Store.meaning self.old.store) (S.Store.meaning self.new.store) }

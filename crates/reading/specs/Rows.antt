@@ -1,6 +1,6 @@
 -- What a row of entries stands for in a store, and what reading it gives. Assumes nothing.
 use Rattle.std.specs.Prelude.{◌≡◌, ℕ, ◌+◌, ◌-◌, ◌<◌, ◌≤◌, true, false, cond, List, [], ◌∷◌, ◌++◌, length, take, drop, Some, None, Ok, Err, sum_by, Option, Result, nat_lt}
-use Rattle.std.specs.List.{flat_map, AllByRecursion as All}
+use Rattle.std.specs.List.{flat_map, AllByRecursion}
 use Rattle.rows.specs.declared.entry.Entry.{Entry}
 use Rattle.stores.specs.Meaning.{Meaning, block}
 use Rattle.reading.specs.declared.fault.ReadFault.{ReadFault}
@@ -31,7 +31,7 @@ module _ {F : Type 0} where
 
   -- and so has every entry of a row
   abbrev pub Tied : Meaning F → List Entry → Type 0
-  Tied m es = All (Ties m) es
+  Tied m es = AllByRecursion (Ties m) es
 
   -- every row that is tied to the one store is tied to the other, with the same frames
   abbrev pub RowsStay : Meaning F → Meaning F → Type 0

@@ -1,6 +1,6 @@
 -- The stretches that the frames of new blocks come from, and what gathering them gives. Assumes nothing.
 use Rattle.std.specs.Prelude.{◌≡◌, ℕ, ◌+◌, ◌-◌, ◌^◌, ◌<◌, ◌≤◌, List, length, take, drop, Some, None, Ok, Err, Option, Result}
-use Rattle.std.specs.List.{flat_map, AllByRecursion as All}
+use Rattle.std.specs.List.{flat_map, AllByRecursion}
 use Rattle.stores.specs.declared.fault.StoreFault.{StoreFault}
 use Rattle.stores.specs.Meaning.{Meaning}
 use Rattle.reading.specs.declared.stretch.Stretch.{Stretch}
@@ -30,7 +30,7 @@ module _ {F : Type 0} where
 
   -- and so does every stretch
   abbrev pub AllSound : Meaning F → List (Stretch F) → Type 0
-  AllSound m ss = All (Sound m) ss
+  AllSound m ss = AllByRecursion (Sound m) ss
 
   -- the stretches joined
   abbrev pub sequence : Meaning F → List (Stretch F) → List F

@@ -1,6 +1,6 @@
 -- Mending what an edit leaves makes at most four new blocks. Assumes nothing.
 use Rattle.std.proofs.Common.{◌≡◌, ℕ, ◌+◌, ◌/◌, ◌≤◌, ◌⊎◌, List, [], ◌∷◌, ◌++◌, Some, None, Option, sym, subst, inl, inr, append-nil, arith}
-use Rattle.std.specs.List.{AllByRecursion as All}
+use Rattle.std.specs.List.{AllByRecursion}
 use Rattle.rows.specs.declared.piece.Piece.{Piece}
 use Rattle.rows.specs.declared.mending.Met.{Met}
 use Rattle.rows.specs.Pieces.{loose_of, emit, one_if_loose, count_of_new, Whole, Sized}
@@ -71,7 +71,7 @@ module _ (L : ℕ) where
     cut_few : (l : Piece) (bs : List Piece) → FullBlocks L bs → Few L (l ∷ (bs ++ rest)) (n + 2)
     cut_few l bs all = record { alone = any l bs all; past = λ a. cut_way a l bs (way L a l) all }
 
-  blocks_of : (ps : List Piece) → All Whole ps → All (Sized L) ps → FullBlocks L ps
+  blocks_of : (ps : List Piece) → AllByRecursion Whole ps → AllByRecursion (Sized L) ps → FullBlocks L ps
   blocks_of [] w s = tt
   blocks_of (p ∷ ps) w s = ((w.0, s.0), blocks_of ps w.1 s.1)
 

@@ -1,6 +1,6 @@
 -- Mending keeps the frames, the sizes and the places of blocks. Assumes nothing.
 use Rattle.std.proofs.Common.{◌≡◌, ℕ, ◌+◌, ◌/◌, ◌<◌, ◌≤◌, List, [], ◌∷◌, ◌++◌, take, drop, sym, refl, ap, ◌∙◌, subst, inl, inr, ⊎_elim, arith}
-use Rattle.std.specs.List.{AllByRecursion as All}
+use Rattle.std.specs.List.{AllByRecursion}
 use Rattle.std.proofs.lemmas.List.{take_at, drop_at, drop-drop}
 use Rattle.std.proofs.lemmas.Bool.{cases_lt}
 use Rattle.rows.specs.declared.piece.Piece.{Piece}
@@ -20,21 +20,21 @@ module _ (L : ℕ) where
   frames_from a [] = refl
   frames_from a (p ∷ ps) = frames_way a p ps (way L a p) (frames_from (meeting L a p).last ps)
 
-  sized_way : (a p : Piece) (ps : List Piece) {s : Met} → Way L a p s → Sized L a → p.len ≤ L → (Sized L s.last → All (Sized L) (mended_from L s.last ps)) → All (Sized L) (emit s.settled (mended_from L s.last ps))
+  sized_way : (a p : Piece) (ps : List Piece) {s : Met} → Way L a p s → Sized L a → p.len ≤ L → (Sized L s.last → AllByRecursion (Sized L) (mended_from L s.last ps)) → AllByRecursion (Sized L) (emit s.settled (mended_from L s.last ps))
   sized_way a p ps (apart u v) h w next = (h, next (omega arith, w))
   sized_way a p ps (one t is fit sm) h w next = next (omega arith, omega arith)
   sized_way a p ps (two m k is half up down small) h w next = let s = small h.0 in ((omega arith, omega arith), next (omega arith, omega arith))
 
-  sized_from : (a : Piece) (ps : List Piece) → Sized L a → All (Within L) ps → All (Sized L) (mended_from L a ps)
+  sized_from : (a : Piece) (ps : List Piece) → Sized L a → AllByRecursion (Within L) ps → AllByRecursion (Sized L) (mended_from L a ps)
   sized_from a [] h ws = (h, tt)
   sized_from a (p ∷ ps) h ws = sized_way a p ps (way L a p) h ws.0.1 (λ k. sized_from (meeting L a p).last ps k ws.1)
 
-  well_way : (a p : Piece) (ps : List Piece) {s : Met} → Way L a p s → 1 ≤ a.len → a.len < L / 2 → p.len ≤ L → (Sized L s.last → All (Sized L) (mended_from L s.last ps)) → (1 ≤ s.last.len → s.last.len < L / 2 → WellSized L (mended_from L s.last ps)) → WellSized L (emit s.settled (mended_from L s.last ps))
+  well_way : (a p : Piece) (ps : List Piece) {s : Met} → Way L a p s → 1 ≤ a.len → a.len < L / 2 → p.len ≤ L → (Sized L s.last → AllByRecursion (Sized L) (mended_from L s.last ps)) → (1 ≤ s.last.len → s.last.len < L / 2 → WellSized L (mended_from L s.last ps)) → WellSized L (emit s.settled (mended_from L s.last ps))
   well_way a p ps (apart u v) low h w big small = absurd (omega arith)
   well_way a p ps (one t is fit sm) low h w big small = ⊎_elim (small (omega arith)) (λ g. inl (big (g, omega arith))) (cases_lt t (L / 2))
   well_way a p ps (two m k is half up down sm) low h w big small = inl ((omega arith, omega arith), big (omega arith, omega arith))
 
-  well_from : (a : Piece) (ps : List Piece) → 1 ≤ a.len → a.len < L / 2 → All (Within L) ps → WellSized L (mended_from L a ps)
+  well_from : (a : Piece) (ps : List Piece) → 1 ≤ a.len → a.len < L / 2 → AllByRecursion (Within L) ps → WellSized L (mended_from L a ps)
   well_from a [] low h ws = inr (a, refl, low, h)
   well_from a (p ∷ ps) low h ws = well_way a p ps (way L a p) low h ws.0.1 (λ k. sized_from (meeting L a p).last ps k ws.1) (λ g k. well_from (meeting L a p).last ps g k ws.1)
 
@@ -43,7 +43,7 @@ module _ (L : ℕ) where
   untouched_way a p ps (one t is fit sm) h k e = absurd (omega (arith, sm h.0))
   untouched_way a p ps (two m n is half up down sm) h k e = absurd (omega (arith, sm h.0))
 
-  untouched_from : (a : Piece) (ps : List Piece) → Sized L a → All (Sized L) ps → mended_from L a ps ≡ a ∷ ps
+  untouched_from : (a : Piece) (ps : List Piece) → Sized L a → AllByRecursion (Sized L) ps → mended_from L a ps ≡ a ∷ ps
   untouched_from a [] h zs = refl
   untouched_from a (p ∷ ps) h zs = untouched_way a p ps (way L a p) h zs.0 (untouched_from p ps zs.0 zs.1)
 
@@ -67,7 +67,7 @@ pub frames_kept : (L : ℕ) (ps : List Piece) → frames (mended L ps) ≡ frame
 frames_kept L [] = refl
 frames_kept L (p ∷ ps) = frames_from L p ps
 
-pub sizes_stand : (L : ℕ) (ps : List Piece) → All (Within L) ps → WellSized L (mended L ps)
+pub sizes_stand : (L : ℕ) (ps : List Piece) → AllByRecursion (Within L) ps → WellSized L (mended L ps)
 sizes_stand L [] ws = inl tt
 sizes_stand L (p ∷ ps) ws =
     ⊎_elim (λ h. well_from L p ps ws.0.0 h ws.1) (λ h. inl (sized_from L p ps (h, ws.0.1) ws.1)) (cases_lt p.len (L / 2))

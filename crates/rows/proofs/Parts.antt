@@ -1,6 +1,6 @@
 -- What an entry gives to a cut, and the lengths of a cut's pieces. Assumes nothing.
 use Rattle.std.proofs.Common.{◌≡◌, ℕ, ◌+◌, ◌-◌, ◌<◌, ◌≤◌, min, eqb, List, [], ◌∷◌, Some, None, Option, sym, refl, ap, ◌∙◌, subst, ⊎_elim, arith}
-use Rattle.std.specs.List.{AllByRecursion as All}
+use Rattle.std.specs.List.{AllByRecursion}
 use Rattle.std.proofs.lemmas.Bool.{cond_both, eqb-true, eqb-false, cases_lt}
 use Rattle.rows.specs.declared.piece.Piece.{Piece}
 use Rattle.rows.specs.declared.entry.Entry.{Entry}
@@ -94,16 +94,16 @@ cut_filled (e ∷ es) f t =
     (λ l. subst NoneEmpty (sym (cut_none (e ∷ es) f t l)) tt)
     (cases_lt f t)
 
-within_part : (L : ℕ) (e : Entry) (f t : ℕ) (rest : List Piece) {o : Option Piece} → Part e f t o → e.len ≤ L → All (Within L) rest → All (Within L) (emit o rest)
+within_part : (L : ℕ) (e : Entry) (f t : ℕ) (rest : List Piece) {o : Option Piece} → Part e f t o → e.len ≤ L → AllByRecursion (Within L) rest → AllByRecursion (Within L) (emit o rest)
 within_part L e f t rest (past h) z r = r
 within_part L e f t rest (full k h l) z r = ((l, z), r)
 within_part L e f t rest (some_of n h k m p) z r = ((p, omega arith), r)
 
 -- no piece is longer than the longest block
-pub within_cut : (L : ℕ) (es : List Entry) (f t : ℕ) → All (Within L) (wholes es) → All (Within L) (cut es f t)
+pub within_cut : (L : ℕ) (es : List Entry) (f t : ℕ) → AllByRecursion (Within L) (wholes es) → AllByRecursion (Within L) (cut es f t)
 within_cut L [] f t zs = tt
 within_cut L (e ∷ es) f t zs =
     ⊎_elim
     (λ l. within_part L e f t (cut es (f - e.len) (t - e.len)) (part e f t l) zs.0.1 (within_cut L es (f - e.len) (t - e.len) zs.1))
-    (λ l. subst (All (Within L)) (sym (cut_none (e ∷ es) f t l)) tt)
+    (λ l. subst (AllByRecursion (Within L)) (sym (cut_none (e ∷ es) f t l)) tt)
     (cases_lt f t)

@@ -1,6 +1,6 @@
 -- What a cut of a well-sized row has: whole blocks, with at most one loose piece at each end. Assumes nothing.
 use Rattle.std.proofs.Common.{◌≡◌, ℕ, ◌+◌, ◌-◌, ◌/◌, ◌<◌, ◌≤◌, min, ◌⊎◌, List, [], ◌∷◌, ◌++◌, Option, refl, ap, ◌∙◌, inl, inr, ⊎_elim, arith}
-use Rattle.std.specs.List.{AllByRecursion as All}
+use Rattle.std.specs.List.{AllByRecursion}
 use Rattle.std.proofs.ByRecursion.{All-weaker}
 use Rattle.std.proofs.lemmas.Bool.{cases_lt}
 use Rattle.rows.specs.declared.piece.Piece.{Piece}
@@ -111,7 +111,7 @@ module _ (L : ℕ) where
       }
   full_part e f t all rest (some_of n h k m p) z none r = loose_part e f t all n rest z.1 h k m p none r
 
-  full_span : (es : List Entry) (f t : ℕ) → All (Sized L) (wholes es) → FullSpan f t (frames (wholes es)) (cut es f t)
+  full_span : (es : List Entry) (f t : ℕ) → AllByRecursion (Sized L) (wholes es) → FullSpan f t (frames (wholes es)) (cut es f t)
   full_span [] f t zs = empty f t 0 [] refl
   full_span (e ∷ es) f t zs =
       ⊎_elim

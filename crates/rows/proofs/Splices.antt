@@ -1,6 +1,6 @@
 -- A row that is spliced or copied from: it is what an edit leaves, so it is mended well. Assumes nothing.
 use Rattle.std.proofs.Common.{◌≡◌, ℕ, ◌+◌, ◌≤◌, List, [], ◌∷◌, ◌++◌, sym, refl, ap, ◌∙◌, subst, inl, inr, ⊎_elim, append_assoc, append-nil, arith}
-use Rattle.std.specs.List.{AllByRecursion as All}
+use Rattle.std.specs.List.{AllByRecursion}
 use Rattle.std.proofs.ByRecursion.{All-append, All-weaker}
 use Rattle.rows.specs.declared.piece.Piece.{Piece}
 use Rattle.rows.specs.declared.entry.Entry.{Entry}
@@ -49,15 +49,15 @@ splice_shape L es f t ms row m =
 
 module _ (L : ℕ) where
   -- the blocks of a well-sized row have 1 to L frames
-  pub well_within : 2 ≤ L → (ps : List Piece) → WellSized L ps → All (Within L) ps
+  pub well_within : 2 ≤ L → (ps : List Piece) → WellSized L ps → AllByRecursion (Within L) ps
   well_within two ps (inl zs) = All-weaker (Sized L) (Within L) (λ p z. (omega arith, z.1)) ps zs
-  well_within two ps (inr (p, is, low, h)) = subst (All (Within L)) (sym is) ((low, omega arith), tt)
+  well_within two ps (inr (p, is, low, h)) = subst (AllByRecursion (Within L)) (sym is) ((low, omega arith), tt)
 
-  pub put_within : 2 ≤ L → (ms : List Piece) → PutIn L ms → All (Within L) ms
+  pub put_within : 2 ≤ L → (ms : List Piece) → PutIn L ms → AllByRecursion (Within L) ms
   put_within two ms (inl row) = well_within two ms row.1
-  put_within two ms (inr (n, is, low, high)) = subst (All (Within L)) (sym is) ((low, high), tt)
+  put_within two ms (inr (n, is, low, high)) = subst (AllByRecursion (Within L)) (sym is) ((low, high), tt)
 
-  pub spliced_within : (es : List Entry) (f t : ℕ) (ms : List Piece) → All (Within L) (wholes es) → All (Within L) ms → All (Within L) (spliced es f t ms)
+  pub spliced_within : (es : List Entry) (f t : ℕ) (ms : List Piece) → AllByRecursion (Within L) (wholes es) → AllByRecursion (Within L) ms → AllByRecursion (Within L) (spliced es f t ms)
   spliced_within es f t ms zs ws =
       let back = cut es t (frames (wholes es)) in
       All-append (Within L) (cut es 0 f) (ms ++ back) (within_cut L es 0 f zs) (All-append (Within L) ms back ws (within_cut L es t (frames (wholes es)) zs))

@@ -1,6 +1,6 @@
 -- What holds of a row that is cut, changed and mended under the block limit L, which may be any number here. Assumes nothing.
 use Rattle.std.specs.Prelude.{◌≡◌, ℕ, ◌+◌, ◌-◌, ◌≤◌, ◌⊎◌, List, [], ◌∷◌, ◌++◌, length, take, drop, Some, None, Option}
-use Rattle.std.specs.List.{AllByRecursion as All}
+use Rattle.std.specs.List.{AllByRecursion}
 use Rattle.rows.specs.declared.piece.Piece.{Piece}
 use Rattle.rows.specs.declared.entry.Entry.{Entry}
 use Rattle.rows.specs.Pieces.{loose_of, whole_of, frames, count_of_new, Whole, Stands, NoneEmpty, Sized, WellSized}
@@ -9,11 +9,11 @@ use Rattle.rows.specs.Cutting.{cut, wholes}
 
 -- whole blocks, each of at least half the limit
 abbrev pub FullBlocks : ℕ → List Piece → Type 0
-FullBlocks L ps = All (λ p. Whole p × Sized L p) ps
+FullBlocks L ps = AllByRecursion (λ p. Whole p × Sized L p) ps
 
 -- the blocks of a well-sized row, all of them
 abbrev pub RowBlocks : ℕ → List Piece → Type 0
-RowBlocks L ps = All Whole ps × WellSized L ps
+RowBlocks L ps = AllByRecursion Whole ps × WellSized L ps
 
 -- one loose piece that a cut block gave, or that was handed in
 abbrev pub OneLoose : ℕ → List Piece → Type 0

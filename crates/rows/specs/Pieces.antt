@@ -1,6 +1,6 @@
 -- Lists of pieces: their frames, their sizes under the block limit L, and where a piece stands. Assumes nothing.
 use Rattle.std.specs.Prelude.{◌≡◌, ℕ, ◌+◌, ◌/◌, ◌<◌, ◌≤◌, ◌⊎◌, List, [], ◌∷◌, Some, None, Option}
-use Rattle.std.specs.List.{AllByRecursion as All}
+use Rattle.std.specs.List.{AllByRecursion}
 use Rattle.rows.specs.declared.piece.Piece.{Piece}
 
 -- n frames that are no whole old block
@@ -42,7 +42,7 @@ Stands x o (p ∷ ps) = ((p ≡ x) × (o ≡ 0)) ⊎ ((q : ℕ) × (o ≡ p.len 
 
 -- each piece has a frame
 abbrev pub NoneEmpty : List Piece → Type 0
-NoneEmpty ps = All (λ p. 1 ≤ p.len) ps
+NoneEmpty ps = AllByRecursion (λ p. 1 ≤ p.len) ps
 
 -- the piece has 1 to L frames
 abbrev pub Within : ℕ → Piece → Type 0
@@ -58,4 +58,4 @@ Short L ps = (p : Piece) × (ps ≡ p ∷ []) × (1 ≤ p.len) × (p.len < L / 2
 
 -- the sizes that the blocks of every row have
 abbrev pub WellSized : ℕ → List Piece → Type 0
-WellSized L ps = All (Sized L) ps ⊎ Short L ps
+WellSized L ps = AllByRecursion (Sized L) ps ⊎ Short L ps

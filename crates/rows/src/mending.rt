@@ -1,6 +1,6 @@
 // Mending: pieces are taken from left to right, and a piece that is too short is joined with its neighbour.
 ghost use Rattle.std.specs.Prelude.{◌≡◌, ◌≤◌, length, IfOk, OnErr};
-ghost use Rattle.std.specs.List.{AllByRecursion as All};
+ghost use Rattle.std.specs.List.{AllByRecursion};
 ghost use Rattle.rows.specs.Pieces.{frames, count_of_new, Within, WellSized};
 ghost use Rattle.rows.specs.Mending.{meeting, mended, BlocksStay};
 ghost use Rattle.rows.specs.Laws.{Edited};
@@ -46,7 +46,7 @@ fn meet(limit: usize, last: Piece, next: Piece) -> Met
 pub fn mend(heap: Global, limit: usize, pieces: &[Piece]) -> Result<Vec<Piece>, AllocError>
     ensures items { IfOk result (λ v. v.items ≡ mended limit pieces.now) }
     ensures lengths { IfOk result (λ v. frames v.items ≡ frames pieces.now) }
-    ensures sizes { IfOk result (λ v. All (Within limit) pieces.now → WellSized limit v.items) }
+    ensures sizes { IfOk result (λ v. AllByRecursion (Within limit) pieces.now → WellSized limit v.items) }
     ensures places { IfOk result (λ v. BlocksStay pieces.now v.items) }
     ensures untouched { IfOk result (λ v. WellSized limit pieces.now → v.items ≡ pieces.now) }
     ensures few { IfOk result (λ v. Edited limit pieces.now → count_of_new v.items ≤ 4) }

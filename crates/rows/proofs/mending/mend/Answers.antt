@@ -1,5 +1,5 @@
 use Rattle.std.proofs.Common.{◌≡◌, ℕ, ◌≤◌, List, [], ◌++◌, length, vec_items, sym, ap, ◌∙◌, subst, append-nil, arith, rules}
-use Rattle.std.specs.List.{AllByRecursion as All}
+use Rattle.std.specs.List.{AllByRecursion}
 use Rattle.std.proofs.lemmas.List.{nil_from_length}
 use Rattle.rows.specs.declared.piece.Piece.{Piece}
 use Rattle.rows.specs.Pieces.{emit, frames, count_of_new, Within, WellSized}
@@ -21,7 +21,7 @@ loop-next-preserved c =
     c.loop-next.invariant
 
 -- what the contract says of a list that is the mended one
-kept : (L : ℕ) (ps qs : List Piece) → qs ≡ mended L ps → record { items : qs ≡ mended L ps; lengths : frames qs ≡ frames ps; sizes : All (Within L) ps → WellSized L qs; places : BlocksStay ps qs; untouched : WellSized L ps → qs ≡ ps; few : Edited L ps → count_of_new qs ≤ 4; refused : Unit {0} }
+kept : (L : ℕ) (ps qs : List Piece) → qs ≡ mended L ps → record { items : qs ≡ mended L ps; lengths : frames qs ≡ frames ps; sizes : AllByRecursion (Within L) ps → WellSized L qs; places : BlocksStay ps qs; untouched : WellSized L ps → qs ≡ ps; few : Edited L ps → count_of_new qs ≤ 4; refused : Unit {0} }
 kept L ps qs is = record {
   items = is;
   lengths = ap frames is ∙ frames_kept L ps;

@@ -1,5 +1,5 @@
 use Rattle.std.proofs.Common.{◌≡◌, ℕ, ◌<◌, List, [], refl, map, length, vec_items, sym, ap, ◌∙◌, subst, arith, take_all}
-use Rattle.std.specs.List.{AllByRecursion as All}
+use Rattle.std.specs.List.{AllByRecursion}
 use Rattle.stores.specs.Meaning.{capacity, block}
 use Rattle.reading.specs.Faults.{after}
 use Rattle.reading.specs.Stretches.{sequence}
@@ -27,7 +27,7 @@ returns-in-Err g c =
     let m = g.S.Store.meaning c.args.self.now.store in
     let inv = c.loop-cut.invariant.2 in
     let none : Cut = record { at = 0; len = 0 } in
-    let Below : List ℕ → Type 0 = All (λ n. n < capacity m) in
+    let Below : List ℕ → Type 0 = AllByRecursion (λ n. n < capacity m) in
     let told = c.in-Err.ensures in
     let back = c.take_back.ensures in
     let undone : g.S.Store.meaning c.take_back.new.self.store ≡ after m c.in-Err.fault.error = putting_back inv.2 c.in-Err.fault.error _ _ told.store back.store in
