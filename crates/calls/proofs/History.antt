@@ -1,12 +1,12 @@
 -- The history law: after every list of calls the editor shows what the plain-list editor gives. Assumes nothing.
-use Rattle.std.proofs.Common.{◌≡◌, ℕ, zero, suc, ◌+◌, ◌-◌, ◌<◌, ◌≤◌, min, Bool, true, false, List, [], ◌∷◌, ◌++◌, length, get_or, take, drop, Some, None, Option, unwrap_or, sym, refl, ap, ◌∙◌, subst, arith}
+use Rattle.std.proofs.Common.{◌≡◌, ℕ, zero, suc, ◌+◌, ◌-◌, ◌<◌, ◌≤◌, Bool, true, false, List, [], ◌∷◌, ◌++◌, length, get_or, take, drop, Some, None, Option, unwrap_or, sym, refl, ap, ◌∙◌, subst, arith}
 use Rattle.std.specs.Option.{option_map}
 use Rattle.std.proofs.lemmas.List.{length-take-le, length-drop, length_push, get_or_push, get_or_append_left, get_or-take, get_or-drop}
 use Rattle.calls.specs.Plain as plain
 use Rattle.calls.specs.Plain.{Rows, empty, Step, apply, Edit, edited, onward, stood, Plain, Event, Call, start, begin, step, keep, withdraw, undo, redo, forget, rearm, read, unstarted, kept, undone, redone, did, told, advance, fed, with_editing}
 use Rattle.calls.specs.View.{View, Sitting, none, more, Does, Moves, Follows, Keeps, room, full, Idle, Editing, now_at, with_draft, with_states, pushed}
 use Rattle.calls.specs.View as views
-use Rattle.calls.specs.Law.{Shows, Agrees, Filled, HistoryLaw}
+use Rattle.calls.specs.Law.{Agrees, Filled, HistoryLaw}
 
 -- Two words for one place.
 place : {F : Type 0} (ss : List (Rows F)) (m n : ℕ) → m ≡ n → get_or ss m empty ≡ get_or ss n empty

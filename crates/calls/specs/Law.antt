@@ -1,5 +1,5 @@
 -- The history law: what an editor shows is what the plain-list editor gives. Assumes nothing.
-use Rattle.std.specs.Prelude.{◌≡◌, ℕ, ◌+◌, ◌-◌, ◌≤◌, Bool, true, false, List, [], ◌∷◌, ◌++◌, length, take, drop, slice_index_or}
+use Rattle.std.specs.Prelude.{◌≡◌, ℕ, ◌+◌, ◌-◌, ◌≤◌, true, List, length, take, drop, slice_index_or}
 use Rattle.calls.specs.Plain as plain
 use Rattle.calls.specs.Plain.{Rows, empty, Plain, Call, start, begin, step, keep, withdraw, undo, redo, forget, rearm, read, Event, plain}
 use Rattle.calls.specs.View.{View, Sitting, Follows, now_at}

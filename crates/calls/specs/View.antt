@@ -1,7 +1,7 @@
 -- What an editor stands for, and what each call that is done makes of it. Assumes nothing.
 use Rattle.std.specs.Prelude.{◌≡◌, ℕ, ◌+◌, ◌-◌, ◌<◌, ◌≤◌, Bool, true, false, List, [], ◌∷◌, ◌++◌, length, take, drop, Some, None, Option, slice_index_or}
 use Rattle.std.specs.Option.{unwrap_or}
-use Rattle.calls.specs.Plain.{Rows, empty, row, Step, apply, Call, start, begin, step, keep, withdraw, undo, redo, forget, rearm, read, Event}
+use Rattle.calls.specs.Plain.{Rows, empty, row, apply, Call, start, begin, step, keep, withdraw, undo, redo, forget, rearm, read, Event}
 
 -- The states from the oldest on, the current one at `at`: those before it are past, those after it future.
 pub record View (F : Type 0) : Type 0 where

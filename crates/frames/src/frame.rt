@@ -29,7 +29,7 @@ pub trait Frame: Copy + Drop {
     ghost greatest: { Self → ℤ };
 
     // Both fit 32 bits: `mag z < 2 ^ 31` says that z lies from -2 ^ 31 to 2 ^ 31 - 1.
-    // (A ghost member and not a law, since the values of measures cite it.)
+    // (Stands above the calls, and not with the laws, since the values of measures cite it.)
     ghost narrow: { (x : Self) → (mag (least x) < 2 ^ 31) × (mag (greatest x) < 2 ^ 31) };
 
     // The sum of the squares of a frame's numbers.

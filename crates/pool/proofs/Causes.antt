@@ -5,7 +5,7 @@ use Rattle.std.proofs.lemmas.Bool.{cases_Bool, cond-true, cond-false, or_cases, 
 use Rattle.stores.specs.declared.fault.StoreError.TheVariants.{Ailing, BadLength, Full, Failed}
 use Rattle.stores.specs.declared.fault.StoreFault.{StoreFault}
 use Rattle.stores.specs.Faults.{fault}
-use Rattle.stores.specs.Meaning.{Meaning, block, vacant}
+use Rattle.stores.specs.Meaning.{Meaning, vacant}
 use Rattle.stores.specs.Promise.{Tried, Puts}
 use Rattle.stores.proofs.Refusals.{put_passes}
 use Rattle.pool.specs.declared.cut.Cut.{Cut}

@@ -19,6 +19,6 @@ fn frames_and_other_lines(rt: HostRuntime) -> Result<(), Fail> {
     let frames = take.frames.as_slice();
     assert!(rt; frames.len() == 2);
     assert_eq!(rt; (frames[0].value, frames[1].value), (-2, 5));
-    assert!(rt; take.unread.as_slice() == [2, 3, 4]);
+    assert!(rt; take.unread.as_slice() == [2, 3, 4].as_slice());
     Ok(())
 }
