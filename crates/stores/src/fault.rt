@@ -5,17 +5,17 @@ ghost use Rattle.stores.specs.Faults.{code};
 #[derive(Clone, Copy, PartialEq, Eq, Debug)]
 pub enum StoreError {
     // The store is ailing: it failed before, and was not rearmed since.
-    Ailing,
+    Ailing = 21,
     // The number holds no block.
-    NoBlock,
+    NoBlock = 22,
     // A part that is read reaches beyond the block.
-    BeyondBlock,
+    BeyondBlock = 23,
     // No frames, or more than a block may have.
-    BadLength,
+    BadLength = 24,
     // No number is free.
-    Full,
+    Full = 25,
     // The store failed at this call.
-    Failed,
+    Failed = 26,
 }
 
 impl StoreError {
@@ -23,14 +23,7 @@ impl StoreError {
     pub fn code(self) -> u8
         ensures { result ≡ code self }
     {
-        match self {
-            StoreError::Ailing => 21,
-            StoreError::NoBlock => 22,
-            StoreError::BeyondBlock => 23,
-            StoreError::BadLength => 24,
-            StoreError::Full => 25,
-            StoreError::Failed => 26,
-        }
+        self as u8
     }
 }
 
