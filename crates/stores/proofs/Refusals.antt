@@ -1,11 +1,12 @@
 -- What a refusal that comes, or does not come, tells of a put or a read.
 use Rattle.std.proofs.Common.{◌≡◌, ℕ, ◌+◌, ◌-◌, ◌<◌, ◌≤◌, Bool, true, false, cond, ◌||◌, eqb, ltb, ◌≢◌, List, [], length, Some, None, Ok, Err, Option, Result, sym, refl, ap, ◌∙◌, subst, arith}
-use Rattle.std.proofs.lemmas.Bool.{eqb-false, ltb-false, or_parts, or_from, eq-eqb, ne_eqb, le-ltb, cond-true, cond-false}
+use Rattle.std.proofs.lemmas.Bool.{eqb-false, ltb-false, or_parts, eq-eqb, ne_eqb}
+use Rattle.std.specs.Option.{ok_or}
 use Rattle.stores.specs.declared.fault.StoreError.{StoreError}
 use Rattle.stores.specs.declared.fault.StoreError.TheVariants.{Ailing, BadLength, Full}
 use Rattle.stores.specs.Faults.{fault}
 use Rattle.stores.specs.Meaning.{Meaning, capacity, block, vacant, lowest, holding}
-use Rattle.stores.specs.Promise.{refusal_of_put, refusal_of_read, placed, or_error, Tried, Puts}
+use Rattle.stores.specs.Promise.{refusal_of_put, refusal_of_read, placed, Tried, Puts}
 use Rattle.stores.proofs.Vacant.{Lowest, lowest_tells}
 
 -- a refusal that does not come leaves its test false, and the later ones
@@ -29,24 +30,12 @@ module _ {F : Type 0} (m : Meaning F) where
       let d = later _ _ _ b.1 in
       (eqb-false _ _ b.0, ltb-false _ _ d.0)
 
-  -- the tests of a place, one after the other
-  pub placed_ailing : (count : ℕ) → m.ailing ≡ true → placed m count ≡ Err Ailing
-  placed_ailing count e = cond-true m.ailing _ _ e
-
-  pub placed_bad : (count : ℕ) → m.ailing ≡ false → (eqb count 0 || ltb m.limit count) ≡ true → placed m count ≡ Err BadLength
-  placed_bad count well bad = cond-false m.ailing _ _ well ∙ cond-true (eqb count 0 || ltb m.limit count) _ _ bad
-
-  pub placed_lowest : (count : ℕ) → m.ailing ≡ false → count ≢ 0 → count ≤ m.limit → placed m count ≡ or_error (lowest m) Full
-  placed_lowest count well some short =
-      cond-false m.ailing _ _ well ∙
-      cond-false (eqb count 0 || ltb m.limit count) _ _ (or_from (eqb count 0) (ltb m.limit count) (ne_eqb count 0 some) (le-ltb m.limit count short))
-
   -- what a place, or the refusal in its stead, says of a put's refusal
   abbrev Told : Option StoreError → Result ℕ StoreError → Type 0
   Told refusal (Ok n) = (refusal ≡ None) × (n < capacity m) × (block m n ≡ [])
   Told refusal (Err e) = refusal ≡ Some e
 
-  room : (o : Option ℕ) → Lowest 0 m.blocks o → Told (cond (eqb (vacant m.blocks) 0) (Some Full) None) (or_error o Full)
+  room : (o : Option ℕ) → Lowest 0 m.blocks o → Told (cond (eqb (vacant m.blocks) 0) (Some Full) None) (ok_or o Full)
   room None h = ap (λ t. cond t (Some Full) None) (eq-eqb (vacant m.blocks) 0 h)
   room (Some n) h =
       let e : n - 0 ≡ n = omega arith in

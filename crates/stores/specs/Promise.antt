@@ -1,15 +1,16 @@
 -- What each call of a store promises, by the store's meaning before and after, m and m'.
 use Rattle.std.specs.Prelude.{◌≡◌, ℕ, ◌+◌, ◌<◌, cond, ◌||◌, List, [], length, take, drop, Some, None, Ok, Err, Option, Result, ◌==◌, nat_lt}
+use Rattle.std.specs.Option.{ok_or}
 use Rattle.stores.specs.declared.fault.StoreError.{StoreError}
 use Rattle.stores.specs.declared.fault.StoreError.TheVariants.{Ailing, NoBlock, BeyondBlock, BadLength, Full, Failed}
 use Rattle.stores.specs.declared.fault.StoreFault.{StoreFault}
 use Rattle.stores.specs.Faults.{fault}
 use Rattle.stores.specs.Meaning.{Meaning, capacity, block, vacant, lowest, holding, sick}
 
--- a number that was found, or else an error
-abbrev pub or_error : Option ℕ → StoreError → Result ℕ StoreError
-or_error None e = Err e
-or_error (Some n) e = Ok n
+-- what a check answers of a call: the refusal where there is one, else nothing
+abbrev pub Checks : Option StoreError → {U : Type 0} → Result U StoreError → Type 0
+Checks refusal (Ok _) = refusal ≡ None
+Checks refusal (Err e) = refusal ≡ Some e
 
 module _ {F : Type 0} where
   -- why a put of so many frames is refused before it is tried, if it is
@@ -24,7 +25,7 @@ module _ {F : Type 0} where
   placed m count =
       cond m.ailing (Err Ailing) (
       cond (count == 0 || nat_lt m.limit count) (Err BadLength) (
-      or_error (lowest m) Full))
+      ok_or (lowest m) Full))
 
   -- why a read of so many frames is refused before it is tried, if it is
   abbrev pub refusal_of_read : Meaning F → ℕ → ℕ → ℕ → Option StoreError

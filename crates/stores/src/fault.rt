@@ -1,6 +1,8 @@
 // The faults of a store: why a call was refused or failed, and which block it was about.
-ghost use Rattle.std.specs.Prelude.{◌≡◌};
-ghost use Rattle.stores.specs.Faults.{code};
+ghost use Rattle.std.specs.Prelude.{◌≡◌, Some, None};
+ghost use Rattle.stores.specs.Faults.{code, fault, fault_text};
+
+use std::fmt;
 
 #[derive(Clone, Copy, PartialEq, Eq, Debug)]
 pub enum StoreError {
@@ -25,6 +27,16 @@ impl StoreError {
     {
         self as u8
     }
+
+    // The fault of a call about a block.
+    pub fn at(self, number: usize) -> StoreFault
+        ensures { result ≡ fault self (Some number) }
+    {
+        StoreFault {
+            error: self,
+            block: Some(number),
+        }
+    }
 }
 
 #[derive(Clone, Copy, PartialEq, Eq, Debug)]
@@ -32,4 +44,25 @@ pub struct StoreFault {
     pub error: StoreError,
     // The number of the block that the call was about; a put has none.
     pub block: Option<usize>,
+}
+
+// The fault of a put, which is about no block.
+impl From<StoreError> for StoreFault {
+    ghost from_gives = { λ error told. told ≡ fault error None };
+
+    fn from(error: StoreError) -> StoreFault {
+        StoreFault { error, block: None }
+    }
+}
+
+impl fmt::Display for StoreFault {
+    ghost output = { λ told. Some (fault_text told) };
+
+    fn fmt<W: fmt::Write>(&self, f: &mut fmt::Formatter<W>) -> fmt::Result {
+        let code = self.error.code();
+        match self.block {
+            Some(number) => write!(f, "refused by {code} at block {number}"),
+            None => write!(f, "refused by {code}"),
+        }
+    }
 }

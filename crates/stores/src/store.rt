@@ -4,7 +4,7 @@
 // every store.
 ghost use Rattle.std.specs.Prelude.{◌≡◌, length};
 ghost use Rattle.stores.specs.Meaning.{Meaning, WithinLimit, capacity, block, vacant, lowest, well};
-ghost use Rattle.stores.specs.Promise.{Puts, Reads, Releases, placed, refusal_of_put, refusal_of_read};
+ghost use Rattle.stores.specs.Promise.{Checks, Puts, Reads, Releases, placed, refusal_of_put, refusal_of_read};
 
 use crate::fault::{StoreError, StoreFault};
 use frames::Frame;
@@ -69,40 +69,35 @@ pub trait Store {
         if count == 0 || count > self.limit() {
             return Err(StoreError::BadLength);
         }
-        match self.lowest_free() {
-            Some(number) => Ok(number),
-            None => Err(StoreError::Full),
-        }
+        self.lowest_free().ok_or(StoreError::Full)
     }
 
-    // Why a put of `count` frames is refused before it is tried, if it is.
-    fn put_refusal(&self, count: usize) -> Option<StoreError>
-        ensures { result ≡ refusal_of_put (meaning self.now) count }
+    // Refuses a put of `count` frames, if it is refused before it is tried.
+    fn check_put(&self, count: usize) -> Result<(), StoreError>
+        ensures { Checks (refusal_of_put (meaning self.now) count) result }
     {
-        match self.place(count) {
-            Ok(_) => None,
-            Err(error) => Some(error),
-        }
+        self.place(count)?;
+        Ok(())
     }
 
-    // Why a read of `count` frames is refused before it is tried, if it is.
-    fn read_refusal(&self, number: usize, offset: usize, count: usize) -> Option<StoreError>
-        ensures { result ≡ refusal_of_read (meaning self.now) number offset count }
+    // Refuses a read of `count` frames, if it is refused before it is tried.
+    fn check_read(&self, number: usize, offset: usize, count: usize) -> Result<(), StoreError>
+        ensures { Checks (refusal_of_read (meaning self.now) number offset count) result }
     {
         if self.is_ailing() {
-            return Some(StoreError::Ailing);
+            return Err(StoreError::Ailing);
         }
         let len = self.block_len(number);
         if len == 0 {
-            return Some(StoreError::NoBlock);
+            return Err(StoreError::NoBlock);
         }
         if offset > len || count > len - offset {
-            return Some(StoreError::BeyondBlock);
+            return Err(StoreError::BeyondBlock);
         }
         if count == 0 {
-            return Some(StoreError::BadLength);
+            return Err(StoreError::BadLength);
         }
-        None
+        Ok(())
     }
 
     // Puts the frames as a block at a free number of the store's choice, and tells the number.

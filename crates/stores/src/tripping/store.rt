@@ -59,14 +59,9 @@ impl<S: Store> Store for Tripping<S> {
         ensures promised { Puts (seen S.Store.meaning self.old) frames.now result (seen S.Store.meaning self.new) }
         ensures counted { Counts (refusal_of_put (seen S.Store.meaning self.old) (length frames.now)) self.old self.new (result ≡ Err (fault Failed None)) (Puts (S.Store.meaning self.old.below) frames.now result (S.Store.meaning self.new.below)) }
     {
-        if let Some(error) = self.put_refusal(frames.len()) {
-            return Err(StoreFault { error, block: None });
-        }
+        self.check_put(frames.len())?;
         if self.trips() {
-            return Err(StoreFault {
-                error: StoreError::Failed,
-                block: None,
-            });
+            return Err(StoreError::Failed.into());
         }
         self.below.put(frames)
     }
@@ -80,17 +75,10 @@ impl<S: Store> Store for Tripping<S> {
         ensures promised { Reads (seen S.Store.meaning self.old) number offset buffer.old result buffer.new (seen S.Store.meaning self.new) }
         ensures counted { Counts (refusal_of_read (seen S.Store.meaning self.old) number offset (length buffer.old)) self.old self.new (result ≡ Err (fault Failed (Some number))) (Reads (S.Store.meaning self.old.below) number offset buffer.old result buffer.new (S.Store.meaning self.new.below)) }
     {
-        if let Some(error) = self.read_refusal(number, offset, buffer.len()) {
-            return Err(StoreFault {
-                error,
-                block: Some(number),
-            });
-        }
+        self.check_read(number, offset, buffer.len())
+            .map_err(|error| error.at(number))?;
         if self.trips() {
-            return Err(StoreFault {
-                error: StoreError::Failed,
-                block: Some(number),
-            });
+            return Err(StoreError::Failed.at(number));
         }
         self.below.read(number, offset, buffer)
     }
