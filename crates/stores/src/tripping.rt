@@ -9,15 +9,15 @@ pub mod store;
 #[derive(Drop)]
 pub struct Tripping<S> {
     below: S,
-    // The put or read that fails, counted from 1, of those that are not refused; 0 for none.
-    trip_at: u64,
+    // The put or read that fails, if one is to, counted from 1, of those that are not refused.
+    trip_at: Option<u64>,
     // How many puts and reads were not refused.
     counted: u64,
     tripped: bool,
 }
 
 impl<S: Store> Tripping<S> {
-    pub fn new(below: S, trip_at: u64) -> Tripping<S>
+    pub fn new(below: S, trip_at: Option<u64>) -> Tripping<S>
         ensures below { result.below ≡ below }
         ensures trip { result.trip_at ≡ trip_at }
         ensures counted { result.counted ≡ 0 }
@@ -42,12 +42,6 @@ impl<S: Store> Tripping<S> {
     pub fn into_below(self) -> S
         ensures { result ≡ self.below }
     {
-        let Tripping {
-            below,
-            trip_at: _,
-            counted: _,
-            tripped: _,
-        } = self;
-        below
+        self.below
     }
 }

@@ -4,7 +4,7 @@ ghost use Rattle.std.specs.Prelude.{◌≡◌, ◌+◌, false, ◌||◌, length,
 ghost use Rattle.stores.specs.Faults.{fault};
 ghost use Rattle.stores.specs.Meaning.{well};
 ghost use Rattle.stores.specs.Promise.{Puts, Reads, Releases, refusal_of_put, refusal_of_read};
-ghost use Rattle.stores.specs.Trip.{Counts, one_more, seen};
+ghost use Rattle.stores.specs.Trip.{Counts, one_more, seen, trips_at};
 ghost use Rattle.stores.specs.declared.fault.StoreError.TheVariants.{Failed};
 
 use crate::fault::{StoreError, StoreFault};
@@ -14,21 +14,18 @@ use crate::tripping::Tripping;
 impl<S: Store> Tripping<S> {
     // Counts one put or read, and says whether it is the one that fails.
     fn trips(&mut self) -> bool
-        ensures value { result ≡ (self.old.counted + 1 == self.old.trip_at) }
+        ensures value { result ≡ trips_at self.old.trip_at (self.old.counted + 1) }
         ensures counted { self.new.counted ≡ one_more self.old.counted }
         ensures tripped { self.new.tripped ≡ (result || self.old.tripped) }
         ensures below { self.new.below ≡ self.old.below }
         ensures trip { self.new.trip_at ≡ self.old.trip_at }
     {
-        if self.counted == u64::MAX {
-            return false;
-        }
-        self.counted += 1;
-        if self.counted == self.trip_at {
-            self.tripped = true;
-            return true;
-        }
-        false
+        let trips = self
+            .trip_at
+            .is_some_and(|at| at.checked_sub(1) == Some(self.counted));
+        self.counted = self.counted.saturating_add(1);
+        self.tripped |= trips;
+        trips
     }
 }
 
