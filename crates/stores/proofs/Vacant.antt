@@ -1,17 +1,46 @@
 -- The free numbers of a list of blocks: how many there are, and which is the lowest.
-use Rattle.std.proofs.Common.{◌≡◌, ℕ, suc, ◌+◌, ◌-◌, ◌<◌, ◌≤◌, cond, eqb, ◌≢◌, List, [], ◌∷◌, ◌++◌, length, get_or, take, Some, None, Option, refl, ap, ◌∙◌, arith}
-use Rattle.std.proofs.lemmas.List.{take_more, nil_from_length}
+use Rattle.std.proofs.Common.{◌≡◌, ℕ, suc, ◌+◌, ◌-◌, ◌<◌, ◌≤◌, Bool, cond, eqb, ◌≢◌, List, [], ◌∷◌, length, get_or, Some, None, Option, refl, sym, ap, ◌∙◌, zero-add, arith}
+use Rattle.std.specs.List.{count_by, find, range_with_len}
+use Rattle.std.proofs.lemmas.List.{nil_from_length}
+use Rattle.std.proofs.lemmas.List.Sums.{sum_by-cons}
 use Rattle.std.proofs.lemmas.Bool.{cond_both, eqb-true, eqb-false, ne_eqb}
 use Rattle.stores.specs.Meaning.{vacant, lowest_from}
 
 module _ {F : Type 0} where
-  vacant_append : (bs cs : List (List F)) → vacant (bs ++ cs) ≡ vacant bs + vacant cs
-  vacant_append [] cs = omega arith
-  vacant_append (b ∷ bs) cs = omega (arith, vacant_append bs cs)
+  -- a test of numbers, from a number on, that says of each whether its block is empty
+  abbrev pub Tests : (ℕ → Bool) → ℕ → List (List F) → Type 0
+  Tests t from bs = (i : ℕ) → i < length bs → t (from + i) ≡ eqb (length (get_or bs i [])) 0
 
-  -- one more block is counted where it is empty
-  pub vacant_take : (bs : List (List F)) (i : ℕ) → i < length bs → vacant (take (i + 1) bs) ≡ vacant (take i bs) + cond (eqb (length (get_or bs i [])) 0) 1 0
-  vacant_take bs i h = ap vacant (take_more bs i [] h) ∙ vacant_append (take i bs) (get_or bs i [] ∷ []) ∙ omega arith
+  first : (t : ℕ → Bool) (from : ℕ) (b : List F) (bs : List (List F)) → Tests t from (b ∷ bs) → t from ≡ eqb (length b) 0
+  first t from b bs h = let e : from + 0 ≡ from = omega arith in ap t (sym e) ∙ h 0 (omega arith)
+
+  others : (t : ℕ → Bool) (from : ℕ) (b : List F) (bs : List (List F)) → Tests t from (b ∷ bs) → Tests t (from + 1) bs
+  others t from b bs h i lt = let e : from + 1 + i ≡ from + suc i = omega arith in ap t e ∙ h (suc i) (omega arith)
+
+  -- the numbers that pass the test are as many as are free
+  vacant_counted : (t : ℕ → Bool) (from : ℕ) (bs : List (List F)) → Tests t from bs → count_by t (range_with_len from (length bs)) ≡ vacant bs
+  vacant_counted t from [] h = refl
+  vacant_counted t from (b ∷ bs) h =
+      sum_by-cons (λ n. cond (t n) 1 0) from (range_with_len (from + 1) (length bs)) ∙
+      ap (λ v. cond v 1 0 + count_by t (range_with_len (from + 1) (length bs))) (first t from b bs h) ∙
+      ap (λ n. cond (eqb (length b) 0) 1 0 + n) (vacant_counted t (from + 1) bs (others t from b bs h))
+
+  -- the first number that passes the test is the lowest that is free
+  lowest_found : (t : ℕ → Bool) (from : ℕ) (bs : List (List F)) → Tests t from bs → find t (range_with_len from (length bs)) ≡ lowest_from from bs
+  lowest_found t from [] h = refl
+  lowest_found t from (b ∷ bs) h =
+      ap (λ v. cond v (Some from) (find t (range_with_len (from + 1) (length bs)))) (first t from b bs h) ∙
+      ap (cond (eqb (length b) 0) (Some from)) (lowest_found t (from + 1) bs (others t from b bs h))
+
+  -- whether the block of a number is empty
+  abbrev pub empty : List (List F) → ℕ → Bool
+  empty bs n = eqb (length (get_or bs n [])) 0
+
+  pub vacant_numbers : (bs : List (List F)) → count_by (empty bs) (range_with_len 0 (length bs)) ≡ vacant bs
+  vacant_numbers bs = vacant_counted (empty bs) 0 bs (λ i lt. ap (empty bs) (zero-add i))
+
+  pub lowest_number : (bs : List (List F)) → find (empty bs) (range_with_len 0 (length bs)) ≡ lowest_from 0 bs
+  lowest_number bs = lowest_found (empty bs) 0 bs (λ i lt. ap (empty bs) (zero-add i))
 
   -- what the lowest free number of blocks that are numbered from a number on tells
   abbrev pub Lowest : ℕ → List (List F) → Option ℕ → Type 0

@@ -38,25 +38,16 @@ pub trait Store {
     fn free(&self) -> usize
         ensures { result ≡ vacant (meaning self.now).blocks }
     {
-        let mut count = 0;
-        for number in 0..self.capacity() {
-            if self.block_len(number) == 0 {
-                count += 1;
-            }
-        }
-        count
+        (0..self.capacity())
+            .filter(|number| self.block_len(*number) == 0)
+            .count()
     }
 
     // The lowest free number, if one is free.
     fn lowest_free(&self) -> Option<usize>
         ensures { result ≡ lowest (meaning self.now) }
     {
-        for number in 0..self.capacity() {
-            if self.block_len(number) == 0 {
-                return Some(number);
-            }
-        }
-        None
+        (0..self.capacity()).find(|number| self.block_len(*number) == 0)
     }
 
     // The lowest free number for a put of `count` frames, or why the put is refused.

@@ -1,27 +1,18 @@
-use Rattle.std.proofs.Common.{◌+◌, ◌<◌, cond, [], length, get_or, take, sym, ap, ◌∙◌, arith, take_all}
-use Rattle.std.proofs.lemmas.Bool.{eq-eqb, ne_eqb}
-use Rattle.stores.specs.Meaning.{vacant}
-use Rattle.stores.proofs.Vacant.{vacant_take}
+use Rattle.std.proofs.Common.{◌≡◌, ◌-◌, ap, ◌∙◌, rules, tests, arith}
+use Rattle.std.proofs.lemmas.Iterator.{YieldsList-from_range}
+use Rattle.std.proofs.lemmas.Iterator.Consumers.{YieldsList-from_filter, count_from_yields_List}
+use Rattle.std.proofs.lemmas.List.Sums.{length-filter}
+use Rattle.std.specs.List.{count_by, range_with_len}
+use Rattle.stores.proofs.Vacant.{empty, vacant_numbers}
 use Rattle.stores.proofs.store.Store.free.Goals as goal
-use Rattle.stores.proofs.store.Store.free.Goals.{then-block_len-eq0, else-block_len-eq0}
-
-pub loop-number-preserved : goal.loop-number-preserved
-loop-number-preserved g c =
-    let bs = (g.Self.Store.meaning c.args.self.now).blocks in
-    let i = c.loop-number.number in
-    let before = vacant (take i bs) in
-    let lt : i < length bs = omega arith in
-    let next = vacant_take bs i lt in
-    elim c.if-block_len-eq0.branch [
-      | then-block_len-eq0 w ↦
-          let more = next ∙ ap (λ t. before + cond t 1 0) (eq-eqb (length (get_or bs i [])) 0 (sym c.block_len.ensures ∙ w.if-block_len-eq0.true)) in
-          (omega arith, omega (arith, w.count-is), omega (arith, w.count-is, more))
-      | else-block_len-eq0 w ↦
-          let same = next ∙ ap (λ t. before + cond t 1 0) (ne_eqb (length (get_or bs i [])) 0 (λ e. w.if-block_len-eq0.false (c.block_len.ensures ∙ e))) in
-          (omega arith, omega (arith, w.count-is), omega (arith, w.count-is, same))
-    ]
 
 pub returns : goal.returns
 returns g c =
     let bs = (g.Self.Store.meaning c.args.self.now).blocks in
-    c.loop-number.invariant.2 ∙ ap vacant (take_all c.loop-number.number bs (omega arith))
+    let n = c.capacity.result in
+    let all : n - 0 ≡ n = omega arith in
+    let numbers = YieldsList-from_range 0 n n c.filter.ensures.source all in
+    count_from_yields_List c.filter.result _ c.count.ensures.ran (YieldsList-from_filter _ (empty bs) numbers c.filter.ensures.closure (λ x b q k. search (rules, tests))) ∙
+    length-filter (empty bs) (range_with_len 0 n) ∙
+    ap (λ k. count_by (empty bs) (range_with_len 0 k)) c.capacity.ensures ∙
+    vacant_numbers bs

@@ -1,29 +1,18 @@
-use Rattle.std.proofs.Common.{◌+◌, ◌<◌, cond, [], length, get_or, drop, Some, sym, ap, ◌∙◌, arith}
-use Rattle.std.proofs.lemmas.List.{at_drop_more, at_drop_all}
-use Rattle.std.proofs.lemmas.Bool.{eq-eqb, ne_eqb}
-use Rattle.stores.specs.Meaning.{lowest_from}
+use Rattle.std.proofs.Common.{◌≡◌, ◌-◌, sym, refl, ap, ◌∙◌, rules, tests, arith}
+use Rattle.std.proofs.lemmas.Iterator.{YieldsList-from_range}
+use Rattle.std.proofs.lemmas.Iterator.Adapters.{option_map_id}
+use Rattle.std.proofs.lemmas.Iterator.Search.{find_from_yields_List}
+use Rattle.std.specs.List.{find, range_with_len}
+use Rattle.stores.proofs.Vacant.{empty, lowest_number}
 use Rattle.stores.proofs.store.Store.lowest_free.Goals as goal
-
-pub returns-then-block_len-eq0 : goal.returns-then-block_len-eq0
-returns-then-block_len-eq0 g c =
-    let bs = (g.Self.Store.meaning c.args.self.now).blocks in
-    let i = c.loop-number.number in
-    let lt : i < length bs = omega arith in
-    sym (sym c.loop-number.invariant.1 ∙ at_drop_more (lowest_from i) bs i [] lt ∙
-    ap (λ t. cond t (Some i) (lowest_from (i + 1) (drop (i + 1) bs))) (eq-eqb (length (get_or bs i [])) 0 (sym c.block_len.ensures ∙ c.if-block_len-eq0.true)))
-
-pub loop-number-preserved : goal.loop-number-preserved
-loop-number-preserved g c =
-    let bs = (g.Self.Store.meaning c.args.self.now).blocks in
-    let i = c.loop-number.number in
-    let lt : i < length bs = omega arith in (
-      c.loop-number.invariant.0,
-      sym (sym c.loop-number.invariant.1 ∙ at_drop_more (lowest_from i) bs i [] lt ∙
-          ap (λ t. cond t (Some i) (lowest_from (i + 1) (drop (i + 1) bs))) (ne_eqb (length (get_or bs i [])) 0 (λ e. c.if-block_len-eq0.false (c.block_len.ensures ∙ e)))),
-    )
 
 pub returns : goal.returns
 returns g c =
     let bs = (g.Self.Store.meaning c.args.self.now).blocks in
-    let i = c.loop-number.number in
-    sym (sym c.loop-number.invariant.1 ∙ at_drop_all (lowest_from i) bs i (omega arith))
+    let n = c.capacity.result in
+    let all : n - 0 ≡ n = omega arith in
+    let found = find_from_yields_List (empty bs) _ _ c.find.result c.find.ensures.ran (YieldsList-from_range 0 n n refl all) (λ x b q k. search (rules, tests)) in
+    sym (option_map_id c.find.result) ∙
+    found ∙
+    ap (λ k. find (empty bs) (range_with_len 0 k)) c.capacity.ensures ∙
+    lowest_number bs
