@@ -1,6 +1,6 @@
 // The tripping store as a store. Beyond what every store promises, its calls say what they do to the
 // count and to the store below.
-ghost use Rattle.std.specs.Prelude.{◌≡◌, ◌+◌, false, ◌||◌, length, Some, None, Err, ◌==◌};
+ghost use Rattle.std.specs.Prelude.{◌≡◌, ◌+◌, false, ◌||◌, length, Some, None, Err};
 ghost use Rattle.stores.specs.Faults.{fault};
 ghost use Rattle.stores.specs.Meaning.{well};
 ghost use Rattle.stores.specs.Promise.{Puts, Reads, Releases, refusal_of_put, refusal_of_read};
