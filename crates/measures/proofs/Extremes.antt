@@ -1,10 +1,11 @@
 -- The extent of some frames bounds each of their numbers and reaches one. Assumes nothing.
-use Rattle.std.proofs.Common.{◌≡◌, ◌^◌, ◌<◌, ◌⊎◌, List, [], ◌∷◌, ℤ, pos, negsuc, ◌≤ℤ◌, sym, refl, ap, ◌∙◌, subst, inl, inr, ⊎_elim, arith}
-use lib.Signed.{mag, lt_z}
+use Rattle.std.proofs.Common.{◌≡◌, ◌⊎◌, List, [], ◌∷◌, ℤ, pos, negsuc, ◌≤ℤ◌, sym, refl, ap, ◌∙◌, subst, inl, inr, ⊎_elim, arith}
+use lib.Signed.{lt_z}
 use Rattle.std.specs.Int.{int_max, int_min}
 use Rattle.std.specs.List.{AllByRecursion}
 use Rattle.std.proofs.lemmas.Int.{ints, clamps}
 use Rattle.std.proofs.lemmas.Bool.{cond_both}
+use Rattle.frames.specs.declared.frame.Frame as frame
 use Rattle.measures.specs.Measured.{measured}
 use Rattle.measures.specs.Extents.{frame_extent, no_extent, wider}
 use Rattle.measures.specs.Meanings.{Extreme, Reaches}
@@ -58,29 +59,29 @@ max_second a b = omega (arith, ints, clamps)
 up : (a b c : ℤ) → a ≤ℤ b → b ≤ℤ c → a ≤ℤ c
 up a b c f g = omega (arith, ints)
 
-module _ {K : Type 0} (least greatest : K → ℤ) (narrow : (x : K) → (mag (least x) < 2 ^ 31) × (mag (greatest x) < 2 ^ 31)) where
+module _ {K : Type 0} (kind : frame.Ghosts K) where
   abbrev extent : List K → Extent
-  extent xs = measured (frame_extent least greatest narrow) wider no_extent xs
+  extent xs = measured (frame_extent kind) wider no_extent xs
 
   abbrev lowest : List K → ℤ
-  lowest xs = picked (λ v z. v ≤ℤ z) int_min (pos 2147483647) min_first min_second up min_either least xs
+  lowest xs = picked (λ v z. v ≤ℤ z) int_min (pos 2147483647) min_first min_second up min_either kind.least xs
 
   abbrev highest : List K → ℤ
-  highest xs = picked (λ v z. z ≤ℤ v) int_max (negsuc 2147483647) max_first max_second (λ a b c f g. up c b a g f) max_either greatest xs
+  highest xs = picked (λ v z. z ≤ℤ v) int_max (negsuc 2147483647) max_first max_second (λ a b c f g. up c b a g f) max_either kind.greatest xs
 
   extent_low : (xs : List K) → (extent xs).low ≡ lowest xs
   extent_low [] = refl
-  extent_low (x ∷ xs) = ap (int_min (least x)) (extent_low xs)
+  extent_low (x ∷ xs) = ap (int_min (kind.least x)) (extent_low xs)
 
   extent_high : (xs : List K) → (extent xs).high ≡ highest xs
   extent_high [] = refl
-  extent_high (x ∷ xs) = ap (int_max (greatest x)) (extent_high xs)
+  extent_high (x ∷ xs) = ap (int_max (kind.greatest x)) (extent_high xs)
 
-  pub extent_reaches : (xs : List K) → Reaches least greatest xs (extent xs)
+  pub extent_reaches : (xs : List K) → Reaches kind xs (extent xs)
   extent_reaches [] some = absurd (omega arith)
   extent_reaches (x ∷ xs) some = (
-    subst (Extreme (λ v z. v ≤ℤ z) least (x ∷ xs)) (sym (extent_low (x ∷ xs)))
-        (picked_extreme (λ v z. v ≤ℤ z) int_min (pos 2147483647) min_first min_second up min_either least (λ y. min_top_right (least y) (narrow y).0) x xs),
-    subst (Extreme (λ v z. z ≤ℤ v) greatest (x ∷ xs)) (sym (extent_high (x ∷ xs)))
-        (picked_extreme (λ v z. z ≤ℤ v) int_max (negsuc 2147483647) max_first max_second (λ a b c f g. up c b a g f) max_either greatest (λ y. max_end_right (greatest y) (narrow y).1) x xs),
+    subst (Extreme (λ v z. v ≤ℤ z) kind.least (x ∷ xs)) (sym (extent_low (x ∷ xs)))
+        (picked_extreme (λ v z. v ≤ℤ z) int_min (pos 2147483647) min_first min_second up min_either kind.least (λ y. min_top_right (kind.least y) (kind.narrow y).0) x xs),
+    subst (Extreme (λ v z. z ≤ℤ v) kind.greatest (x ∷ xs)) (sym (extent_high (x ∷ xs)))
+        (picked_extreme (λ v z. z ≤ℤ v) int_max (negsuc 2147483647) max_first max_second (λ a b c f g. up c b a g f) max_either kind.greatest (λ y. max_end_right (kind.greatest y) (kind.narrow y).1) x xs),
   )

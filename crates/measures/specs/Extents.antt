@@ -3,6 +3,7 @@ use Rattle.std.specs.Prelude.{◌^◌, ◌<◌, ℤ, pos, negsuc}
 use Rattle.std.proofs.Common.{lit<}
 use Rattle.std.specs.Int.Signed.{mag}
 use Rattle.std.specs.Int.{int_max, int_min}
+use Rattle.frames.specs.declared.frame.Frame as frame
 use Rattle.measures.specs.Bounds.{mag_min, mag_max}
 use Rattle.measures.specs.declared.extent.Extent.{Extent}
 
@@ -19,6 +20,6 @@ wider x y =
     extent_from (int_min x.low y.low) (int_max x.high y.high)
     (mag_min (2 ^ 31) x.low y.low x.lows y.lows) (mag_max (2 ^ 31) x.high y.high x.highs y.highs)
 
--- the extent of one frame, by the smallest and the largest number of each
-abbrev pub frame_extent : {K : Type 0} (least greatest : K → ℤ) → ((x : K) → (mag (least x) < 2 ^ 31) × (mag (greatest x) < 2 ^ 31)) → K → Extent
-frame_extent least greatest narrow x = extent_from (least x) (greatest x) (narrow x).0 (narrow x).1
+-- the extent of one frame, by the smallest and the largest number of each of its kind
+abbrev pub frame_extent : {K : Type 0} → frame.Ghosts K → K → Extent
+frame_extent kind x = extent_from (kind.least x) (kind.greatest x) (kind.narrow x).0 (kind.narrow x).1

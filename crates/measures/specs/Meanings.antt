@@ -1,6 +1,7 @@
 -- What the three measures mean of a list of frames, in words of the list alone.
 use Rattle.std.specs.Prelude.{◌≡◌, ℕ, ◌<◌, ◌≤◌, Bool, true, List, ◌∷◌, ◌++◌, length, ℤ, ◌≤ℤ◌}
 use Rattle.std.specs.List.{AllByRecursion}
+use Rattle.frames.specs.declared.frame.Frame as frame
 use Rattle.measures.specs.declared.extent.Extent.{Extent}
 use Rattle.measures.specs.Runs.{Run}
 
@@ -14,9 +15,9 @@ module _ {K : Type 0} where
   Extreme R number frames v = AllByRecursion (λ x. R v (number x)) frames × ((x : K) × Among frames x × (v ≡ number x))
 
   -- the low is at most every frame's low and is one of them, the high alike
-  abbrev pub Reaches : (K → ℤ) → (K → ℤ) → List K → Extent → Type 0
-  Reaches least greatest frames e =
-      0 < length frames → Extreme (λ v z. v ≤ℤ z) least frames e.low × Extreme (λ v z. z ≤ℤ v) greatest frames e.high
+  abbrev pub Reaches : frame.Ghosts K → List K → Extent → Type 0
+  Reaches kind frames e =
+      0 < length frames → Extreme (λ v z. v ≤ℤ z) kind.least frames e.low × Extreme (λ v z. z ≤ℤ v) kind.greatest frames e.high
 
   -- so many frames at the start, at the end, or anywhere in the list
   abbrev pub Begins : List K → List K → Type 0

@@ -1,6 +1,5 @@
 -- The three measures together.
-use Rattle.std.specs.Prelude.{ℕ, ◌^◌, ◌<◌, Bool, ℤ}
-use Rattle.std.specs.Int.Signed.{mag}
+use Rattle.frames.specs.declared.frame.Frame as frame
 use Rattle.measures.specs.Extents.{frame_extent, no_extent, wider}
 use Rattle.measures.specs.Energies.{capped_energy, added}
 use Rattle.measures.specs.ClipRuns.{frame_run, no_run, bridged}
@@ -19,5 +18,5 @@ abbrev pub joined_summary : Summary → Summary → Summary
 joined_summary x y = summary (wider x.extent y.extent) (added x.energy y.energy) (bridged x.run y.run)
 
 -- the summary of one frame, by the facts of its kind
-abbrev pub frame_summary : {K : Type 0} (least greatest : K → ℤ) → ((x : K) → (mag (least x) < 2 ^ 31) × (mag (greatest x) < 2 ^ 31)) → (K → ℕ) → (K → Bool) → K → Summary
-frame_summary least greatest narrow power clips x = summary (frame_extent least greatest narrow x) (capped_energy (power x)) (frame_run (clips x))
+abbrev pub frame_summary : {K : Type 0} → frame.Ghosts K → K → Summary
+frame_summary kind x = summary (frame_extent kind x) (capped_energy (kind.power x)) (frame_run (kind.clips x))

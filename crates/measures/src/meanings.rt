@@ -14,8 +14,8 @@ use frames::Frame;
 
 // The smallest and the largest number of the frames: both are reached, and none lies outside.
 pub fn extent_of<K: Frame>(frames: &[K]) -> Extent
-    ensures value { result ≡ measured (frame_extent K.Frame.least K.Frame.greatest K.Frame.narrow) wider no_extent frames.now }
-    ensures reaches { Reaches K.Frame.least K.Frame.greatest frames.now result }
+    ensures value { result ≡ measured (frame_extent K.Frame) wider no_extent frames.now }
+    ensures reaches { Reaches K.Frame frames.now result }
 {
     measure_of::<K, Extent>(frames)
 }

@@ -7,7 +7,7 @@ use crate::measure::Measure;
 use frames::Frame;
 
 impl<K: Frame> Measure<K> for Extent {
-    ghost worth = { frame_extent K.Frame.least K.Frame.greatest K.Frame.narrow };
+    ghost worth = { frame_extent K.Frame };
 
     ghost joined = { wider };
 

@@ -10,7 +10,7 @@ use crate::summary::Summary;
 use frames::Frame;
 
 impl<K: Frame> Measure<K> for Summary {
-    ghost worth = { frame_summary K.Frame.least K.Frame.greatest K.Frame.narrow K.Frame.power K.Frame.clips };
+    ghost worth = { frame_summary K.Frame };
 
     ghost joined = { joined_summary };
 

@@ -7,4 +7,4 @@ pub returns : goal.returns
 returns g c =
     let k = g.K.Frame in
     let xs = c.args.frames.now in
-    record { value = c.measure_of.ensures.value; reaches = subst (Reaches k.least k.greatest xs) (sym c.measure_of.ensures.value) (extent_reaches k.least k.greatest k.narrow xs) }
+    record { value = c.measure_of.ensures.value; reaches = subst (Reaches k xs) (sym c.measure_of.ensures.value) (extent_reaches k xs) }
