@@ -2,8 +2,9 @@
 use Rattle.std.specs.Prelude.{◌≡◌, ℕ, ◌^◌, List, [], ◌∷◌, map, ℤ, pos, negsuc, codes}
 use Rattle.frames.specs.Twos.{unsigned}
 use Rattle.frames.specs.Samples.{square, at_end}
-use Rattle.frames.specs.Monos.{mono_of_bits, mono_bytes, mono_line, mono_narrow}
+use Rattle.frames.specs.Monos.{mono_of_bits, mono_bytes, mono_line}
 use Rattle.frames.specs.declared.mono.Mono.{Mono}
+use Rattle.frames.specs.contracts.mono.frame.MonoFrame.TheImpl as mono_frame
 use Rattle.rows.specs.declared.piece.Piece.{Piece}
 use Rattle.rows.specs.Pieces.{loose_of, whole_of, count_of_new}
 use Rattle.rows.specs.Mending.{mended}
@@ -30,7 +31,7 @@ abbrev pub Right : Case → Type 0
 Right (a_frame value bytes line) = (mono_bytes (mono value) ≡ bytes) × (mono_line (mono value) ≡ line)
 Right (some_frames values low high energy best) =
     let frames = map mono values in
-    let extent = measured (frame_extent (λ x. x.value) (λ x. x.value) (λ x. (mono_narrow x, mono_narrow x))) wider no_extent frames in
+    let extent = measured (frame_extent mono_frame.ghosts) wider no_extent frames in
     (extent.low ≡ low)
     × (extent.high ≡ high)
     × ((measured (λ x. capped_energy (square x.value)) added (capped_energy 0) frames).sum ≡ energy)
