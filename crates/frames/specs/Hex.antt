@@ -1,5 +1,6 @@
 -- Numbers in hexadecimal digits, highest first.
 use Rattle.std.specs.Prelude.{ℕ, zero, suc, ◌+◌, ◌-◌, ◌*◌, ◌/◌, ◌%◌, cond, ◌&&◌, List, [], ◌∷◌, ◌++◌, Some, None, Option, nat_le, nat_lt}
+use Rattle.std.specs.Option.{option_and_then}
 
 -- '0' to '9', and then 'A' to 'F'
 abbrev pub hex_char : ℕ → ℕ
@@ -14,12 +15,7 @@ abbrev pub hexed : ℕ → ℕ → List ℕ
 hexed zero n = []
 hexed (suc k) n = hexed k (n / 16) ++ (hex_char (n % 16) ∷ [])
 
--- what follows from a value, where there is one
-abbrev pub onward : {X Y : Type 0} → Option X → (X → Option Y) → Option Y
-onward None f = None
-onward (Some x) f = f x
-
 -- the number that the digits of a text write behind those of n; none where a byte is no digit
 abbrev pub hex_number : ℕ → List ℕ → Option ℕ
 hex_number n [] = Some n
-hex_number n (b ∷ bs) = onward (hex_digit b) (λ d. hex_number (n * 16 + d) bs)
+hex_number n (b ∷ bs) = option_and_then (λ d. hex_number (n * 16 + d) bs) (hex_digit b)

@@ -1,5 +1,5 @@
-// Numbers as lines of hexadecimal digits 0 to 9 and A to F, highest first.
-ghost use Rattle.std.specs.Prelude.{◌≡◌, ◌<◌, ◌≤◌, length};
+// Numbers of 16 bits as four hexadecimal digits 0 to 9 and A to F, highest first.
+ghost use Rattle.std.specs.Prelude.{◌≡◌, ◌<◌};
 ghost use Rattle.frames.specs.Hex.{hex_char, hex_digit, hexed, hex_number};
 
 // The digit of a number below sixteen.
@@ -25,26 +25,27 @@ fn digit_value(byte: u8) -> Option<u8>
     }
 }
 
-// Fills `out` with the lowest digits of `number`.
-pub(crate) fn write_hex(number: u32, out: &mut [u8])
-    ensures { out.new ≡ hexed (length out.old) number }
+// The digits of `number`.
+pub(crate) fn to_hex(number: u16) -> [u8; 4]
+    ensures { result ≡ hexed 4 number }
 {
-    let mut rest = number;
-    for i in (0..out.len()).rev() {
-        out[i] = digit_char((rest % 16) as u8);
-        rest /= 16;
-    }
+    let [high, low] = number.to_be_bytes();
+    [
+        digit_char(high / 16),
+        digit_char(high % 16),
+        digit_char(low / 16),
+        digit_char(low % 16),
+    ]
 }
 
-// The number that at most eight digits write, or `None` where a byte is no digit.
-pub(crate) fn read_hex(text: &[u8]) -> Option<u32>
-    requires { length text.now ≤ 8 }
+// The number that `text` writes, or `None` where a byte is no digit.
+pub(crate) fn from_hex(text: &[u8; 4]) -> Option<u16>
     ensures { result ≡ hex_number 0 text.now }
 {
-    let mut number: u32 = 0;
+    let mut number = 0;
     for byte in text {
         let digit = digit_value(*byte)?;
-        number = number * 16 + u32::from(digit);
+        number = number * 16 + u16::from(digit);
     }
     Some(number)
 }

@@ -1,23 +1,13 @@
 // Mono frames as a kind of frame: two bytes, low byte first, and four digits.
-ghost use Rattle.std.specs.Prelude.{◌≡◌, ◌^◌, ◌<◌};
+ghost use Rattle.std.specs.Prelude.{◌^◌};
 ghost use Rattle.frames.specs.Samples.{square, at_end};
-ghost use Rattle.frames.specs.Monos.{mono_of_bits, mono_bytes, mono_from, mono_line, mono_parsed, mono_narrow};
+ghost use Rattle.frames.specs.Monos.{mono_bytes, mono_from, mono_line, mono_parsed, mono_narrow};
 ghost use Rattle.frames.specs.SixteenBits.{mono_decodes, mono_encodes, mono_parses, mono_spells, mono_bounded};
 ghost use Rattle.std.proofs.Common.{arith, rules};
 
 use crate::frame::{Frame, TooShort};
-use crate::hex::{read_hex, write_hex};
+use crate::hex::{from_hex, to_hex};
 use crate::mono::Mono;
-
-impl Mono {
-    // The sample whose two's complement is `bits`.
-    fn of_bits(bits: u32) -> Mono
-        requires { bits < 2 ^ 16 }
-        ensures { result ≡ mono_of_bits bits }
-    {
-        Mono::new((bits as u16).cast_signed())
-    }
-}
 
 impl Frame for Mono {
     ghost wide = { 2 };
@@ -40,17 +30,17 @@ impl Frame for Mono {
 
     ghost clips = { λ x. at_end (2 ^ 15) x.value };
 
-    ghost compact = { first_of (Prim.search rules, Prim.grind (arith, Self.row.coded.inj)) };
+    ghost compact = { Prim.search rules };
 
-    ghost sized = { first_of (Prim.search rules, Prim.grind (arith, Self.row.coded.inj)) };
+    ghost sized = { Prim.search rules };
 
-    ghost bytes = { first_of (Prim.search rules, Prim.grind (arith, Self.row.coded.inj)) };
+    ghost bytes = { Prim.search rules };
 
     ghost decodes = { λ x. mono_decodes x };
 
     ghost encodes = { λ bs l all. mono_encodes bs l all };
 
-    ghost spans = { first_of (Prim.search rules, Prim.grind (arith, Self.row.coded.inj)) };
+    ghost spans = { Prim.search rules };
 
     ghost parses = { λ x. mono_parses x };
 
@@ -63,36 +53,25 @@ impl Frame for Mono {
     }
 
     fn write_bytes(self, out: &mut [u8]) -> Result<(), TooShort> {
-        if out.len() < 2 {
-            return Err(TooShort);
-        }
-        let [low, high] = self.value.to_le_bytes();
-        out[0] = low;
-        out[1] = high;
+        let bytes = out.first_chunk_mut().ok_or(TooShort)?;
+        *bytes = self.value.to_le_bytes();
         Ok(())
     }
 
     fn read_bytes(bytes: &[u8]) -> Option<Mono> {
-        let [low, high] = bytes else {
-            return None;
-        };
-        Some(Mono::new(i16::from_le_bytes([*low, *high])))
+        let bytes = bytes.as_array()?;
+        Some(Mono::new(i16::from_le_bytes(*bytes)))
     }
 
     fn write_line(self, out: &mut [u8]) -> Result<(), TooShort> {
-        if out.len() < 4 {
-            return Err(TooShort);
-        }
-        write_hex(u32::from(self.value.cast_unsigned()), &mut out[0..4]);
+        let line = out.first_chunk_mut().ok_or(TooShort)?;
+        *line = to_hex(self.value.cast_unsigned());
         Ok(())
     }
 
     fn read_line(text: &[u8]) -> Option<Mono> {
-        if text.len() != 4 {
-            return None;
-        }
-        let bits = read_hex(text)?;
-        Some(Mono::of_bits(bits))
+        let bits = from_hex(text.as_array()?)?;
+        Some(Mono::new(bits.cast_signed()))
     }
 
     fn low(self) -> i32 {

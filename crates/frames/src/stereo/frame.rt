@@ -54,34 +54,34 @@ impl Frame for Stereo {
         if out.len() < 4 {
             return Err(TooShort);
         }
-        self.left.write_bytes(&mut out[0..2])?;
-        self.right.write_bytes(&mut out[2..4])
+        let (left, right) = out.split_at_mut(2);
+        self.left.write_bytes(left)?;
+        self.right.write_bytes(right)
     }
 
     fn read_bytes(bytes: &[u8]) -> Option<Stereo> {
-        if bytes.len() != 4 {
-            return None;
-        }
-        let left = Mono::read_bytes(&bytes[0..2])?;
-        let right = Mono::read_bytes(&bytes[2..4])?;
-        Some(Stereo { left, right })
+        let (left, right) = bytes.split_at_checked(2)?;
+        Some(Stereo {
+            left: Mono::read_bytes(left)?,
+            right: Mono::read_bytes(right)?,
+        })
     }
 
     fn write_line(self, out: &mut [u8]) -> Result<(), TooShort> {
         if out.len() < 8 {
             return Err(TooShort);
         }
-        self.left.write_line(&mut out[0..4])?;
-        self.right.write_line(&mut out[4..8])
+        let (left, right) = out.split_at_mut(4);
+        self.left.write_line(left)?;
+        self.right.write_line(right)
     }
 
     fn read_line(text: &[u8]) -> Option<Stereo> {
-        if text.len() != 8 {
-            return None;
-        }
-        let left = Mono::read_line(&text[0..4])?;
-        let right = Mono::read_line(&text[4..8])?;
-        Some(Stereo { left, right })
+        let (left, right) = text.split_at_checked(4)?;
+        Some(Stereo {
+            left: Mono::read_line(left)?,
+            right: Mono::read_line(right)?,
+        })
     }
 
     fn low(self) -> i32 {
