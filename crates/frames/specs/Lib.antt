@@ -3,6 +3,7 @@ pub mod Digits
 pub mod Hex
 pub mod Samples
 pub mod Monos
+pub mod Bounds
 pub mod Stereos
 pub mod Written
 pub mod SixteenBits

@@ -1,14 +1,15 @@
 -- Mono and stereo frames: known by their numbers, and inverse to their bytes and lines. Assumes nothing.
-use Rattle.std.specs.Prelude.{◌≡◌, ℕ, suc, ◌+◌, ◌-◌, ◌*◌, ◌^◌, ◌<◌, ◌≤◌, Bool, true, false, cond, List, [], ◌∷◌, ◌++◌, length, take, drop, ℤ, pos, negsuc, Some, None, Option, ◌==◌, ◌≢◌, nat_lt, slice_index, refl}
+use Rattle.std.specs.Prelude.{◌≡◌, ℕ, suc, ◌+◌, ◌-◌, ◌*◌, ◌^◌, ◌<◌, ◌≤◌, Bool, true, false, cond, List, [], ◌∷◌, ◌++◌, length, take, drop, ℤ, pos, negsuc, Some, None, Option, ◌==◌, nat_lt, slice_index, refl}
 use Rattle.std.proofs.Common.{sym, subst, ap, ◌∙◌, arith, take-append-drop, length-take, length-drop}
 use Rattle.std.proofs.Math.Bridge.{le_prop}
 use Rattle.std.specs.Int.Signed.{mag}
-use mir.Val.{to_z, sel}
+use mir.Val.{to_z, of_z, sel}
 use Rattle.std.specs.Int.{w16}
 use Rattle.std.specs.Option.{option_map}
 use Rattle.std.specs.List.{AllByRecursion}
 use Rattle.std.proofs.ByRecursion.{All-take, All-drop}
-use Rattle.std.proofs.lemmas.Bool.{cond-true, eq-eqb, eqb-true}
+use Rattle.std.proofs.lemmas.Bool.{eqb-true}
+use Rattle.std.proofs.lemmas.Int.{of_z-to_z}
 use Rattle.frames.specs.Twos.{unsigned}
 use Rattle.frames.specs.Digits.{number}
 use Rattle.frames.specs.Hex.{hex_number}
@@ -29,21 +30,20 @@ cond_sel true x y = refl
 cond_sel false x y = refl
 
 -- the sample of 16 bits is what the language's cast computes
-pub bits_cast : (n : ℕ) → n < 2 ^ 16 → (mono_of_bits n).value ≡ to_z w16 n
+bits_cast : (n : ℕ) → n < 2 ^ 16 → (mono_of_bits n).value ≡ to_z w16 n
 bits_cast n small = wrapped (2 ^ 15) n small ∙ cond_sel (nat_lt n (2 ^ 15)) (pos n) (negsuc (2 ^ 16 - suc n))
 
--- the frame that bytes of the right number give
-pub bytes_read : (bs : List ℕ) (x : Mono) → length bs ≡ 2 → Some x ≡ cond (length bs == 2) (Some (mono_from bs)) None → x ≡ mono_from bs
-bytes_read bs x l read = let e = cond-true _ (Some (mono_from bs)) None (eq-eqb (length bs) 2 l) in cc
+-- a frame whose value the language casts from 16 bits is the one that they stand for
+pub mono_cast : (x : Mono) (z : ℤ) (n : ℕ) → n < 2 ^ 16 → x.value ≡ to_z w16 (of_z w16 z) → z ≡ to_z w16 n → x ≡ mono_of_bits n
+mono_cast x z n small made is =
+    same_mono x (mono_of_bits n) (made ∙ ap (λ v. to_z w16 (of_z w16 v)) is ∙ ap (to_z w16) (of_z-to_z w16 n small) ∙ sym (bits_cast n small))
 
--- what two bytes make
-pub bytes_cast : (bs : List ℕ) → length bs ≡ 2 → AllByRecursion (λ b. b < 256) bs → (mono_from bs).value ≡ to_z w16 (slice_index bs 0 + slice_index bs 1 * 256)
-bytes_cast [] l all = absurd (omega arith)
-bytes_cast (a ∷ []) l all = absurd (omega arith)
-bytes_cast (a ∷ b ∷ []) l all =
-    let e : number 256 (a ∷ b ∷ []) ≡ a + b * 256 = omega arith in
-    ap (λ n. (mono_of_bits n).value) e ∙ bits_cast (a + b * 256) (omega arith)
-bytes_cast (a ∷ b ∷ c ∷ bs) l all = absurd (omega arith)
+-- two bytes are a number of 16 bits
+pub two_bytes : (bs : List ℕ) → length bs ≡ 2 → AllByRecursion (λ b. b < 256) bs → (number 256 bs < 2 ^ 16) × (slice_index bs 0 + slice_index bs 1 * 256 ≡ number 256 bs)
+two_bytes [] l all = absurd (omega arith)
+two_bytes (a ∷ []) l all = absurd (omega arith)
+two_bytes (a ∷ b ∷ []) l all = (omega arith, omega arith)
+two_bytes (a ∷ b ∷ c ∷ bs) l all = absurd (omega arith)
 
 pub mono_decodes : (x : Mono) → mono_from (mono_bytes x) ≡ x
 mono_decodes x = same_mono _ x (sample_decodes (2 ^ 15) 2 x.value refl x.fits)
@@ -105,13 +105,3 @@ stereo_spells text x e =
     ap (λ xs. xs ++ mono_line x.right) (mono_spells (take 4 text) x.left parts.0)
     ∙ ap (λ xs. take 4 text ++ xs) (mono_spells (drop 4 text) x.right parts.1)
     ∙ take-append-drop 4 text
-
--- a text of another length is no stereo frame's
-pub stereo_unparsed : (text : List ℕ) → (length text ≢ 8) → stereo_parsed text ≡ None
-stereo_unparsed text other = none (stereo_parsed text) refl
-  where
-    none : (o : Option Stereo) → stereo_parsed text ≡ o → o ≡ None
-    none None e = refl
-    none (Some x) e =
-        let spelled : stereo_line x ≡ text = stereo_spells text x e in
-        absurd (other (sym (ap length spelled)))

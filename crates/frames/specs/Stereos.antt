@@ -1,8 +1,9 @@
 -- What stereo frames mean: the left sample and then the right one.
-use Rattle.std.specs.Prelude.{ℕ, ◌+◌, ◌^◌, ◌<◌, Bool, ◌||◌, List, ◌++◌, take, drop, ℤ, Some, None, Option, int_lt}
+use Rattle.std.specs.Prelude.{ℕ, ◌+◌, ◌^◌, ◌<◌, Bool, ◌||◌, List, ◌++◌, take, drop, ℤ, Option}
 use Rattle.std.specs.Int.Signed.{mag}
 use Rattle.std.specs.Int.{int_max, int_min}
-use Rattle.std.proofs.lemmas.Bool.{cond_both}
+use Rattle.std.specs.Option.{option_and_then, option_map}
+use Rattle.frames.specs.Bounds.{mag_min, mag_max}
 use Rattle.frames.specs.Samples.{square, at_end}
 use Rattle.frames.specs.Monos.{mono_bytes, mono_from, mono_line, mono_parsed, mono_narrow}
 use Rattle.frames.specs.declared.mono.Mono.{Mono}
@@ -13,9 +14,7 @@ stereo_of l r = record { left = l; right = r }
 
 -- a frame of two samples, where there are both
 abbrev pub both : Option Mono → Option Mono → Option Stereo
-both None r = None
-both (Some x) None = None
-both (Some x) (Some y) = Some (stereo_of x y)
+both l r = option_and_then (λ x. option_map (stereo_of x) r) l
 
 abbrev pub stereo_bytes : Stereo → List ℕ
 stereo_bytes x = mono_bytes x.left ++ mono_bytes x.right
@@ -38,11 +37,9 @@ stereo_greatest x = int_max x.left.value x.right.value
 
 pub stereo_narrow : (x : Stereo) → (mag (stereo_least x) < 2 ^ 31) × (mag (stereo_greatest x) < 2 ^ 31)
 stereo_narrow x =
-    let l = x.left.value in
-    let r = x.right.value in (
-      cond_both (int_lt r l) r l (λ z. mag z < 2 ^ 31) (λ _. mono_narrow x.right) (λ _. mono_narrow x.left),
-      cond_both (int_lt r l) l r (λ z. mag z < 2 ^ 31) (λ _. mono_narrow x.left) (λ _. mono_narrow x.right),
-    )
+    let l = mono_narrow x.left in
+    let r = mono_narrow x.right in
+    (mag_min (2 ^ 31) x.left.value x.right.value l r, mag_max (2 ^ 31) x.left.value x.right.value l r)
 
 abbrev pub stereo_power : Stereo → ℕ
 stereo_power x = square x.left.value + square x.right.value

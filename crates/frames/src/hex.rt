@@ -1,4 +1,5 @@
 // Numbers of 16 bits as four hexadecimal digits 0 to 9 and A to F, highest first.
+// By hand: the library reads small letters too, and its formatter may fail.
 ghost use Rattle.std.specs.Prelude.{◌≡◌, ◌<◌};
 ghost use Rattle.frames.specs.Hex.{hex_char, hex_digit, hexed, hex_number};
 

@@ -4,7 +4,7 @@ use Rattle.std.proofs.Common.{lit<}
 use Rattle.std.specs.Int.Signed.{mag}
 use Rattle.std.specs.Int.{int_max, int_min}
 use Rattle.frames.specs.declared.frame.Frame as frame
-use Rattle.measures.specs.Bounds.{mag_min, mag_max}
+use Rattle.frames.specs.Bounds.{mag_min, mag_max}
 use Rattle.measures.specs.declared.extent.Extent.{Extent}
 
 abbrev pub extent_from : (low high : ℤ) → mag low < 2 ^ 31 → mag high < 2 ^ 31 → Extent

@@ -1,5 +1,4 @@
 pub mod Measured
-pub mod Bounds
 pub mod Extents
 pub mod Energies
 pub mod Runs

@@ -53,7 +53,7 @@ impl Frame for Mono {
     }
 
     fn write_bytes(self, out: &mut [u8]) -> Result<(), TooShort> {
-        let bytes = out.first_chunk_mut().ok_or(TooShort)?;
+        let bytes = out.first_chunk_mut::<2>().ok_or(TooShort)?;
         *bytes = self.value.to_le_bytes();
         Ok(())
     }
@@ -64,7 +64,7 @@ impl Frame for Mono {
     }
 
     fn write_line(self, out: &mut [u8]) -> Result<(), TooShort> {
-        let line = out.first_chunk_mut().ok_or(TooShort)?;
+        let line = out.first_chunk_mut::<4>().ok_or(TooShort)?;
         *line = to_hex(self.value.cast_unsigned());
         Ok(())
     }
