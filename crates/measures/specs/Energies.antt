@@ -1,5 +1,5 @@
 -- The energy of frames: the sum of theirs, which stops at 2 ^ 53.
-use Rattle.std.specs.Prelude.{ℕ, ◌+◌, ◌^◌, min, List, [], ◌∷◌}
+use Rattle.std.specs.Prelude.{ℕ, ◌+◌, ◌^◌, min}
 use Rattle.std.proofs.Common.{arith}
 use Rattle.measures.specs.declared.energy.Energy.{Energy}
 
@@ -8,8 +8,3 @@ capped_energy n = record { sum = min n (2 ^ 53); stopped = omega arith }
 
 abbrev pub added : Energy → Energy → Energy
 added x y = capped_energy (x.sum + y.sum)
-
--- the plain sum of a number of each element
-abbrev pub total : {K : Type 0} → (K → ℕ) → List K → ℕ
-total f [] = 0
-total f (x ∷ xs) = f x + total f xs

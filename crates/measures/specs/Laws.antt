@@ -1,6 +1,7 @@
 -- The laws of each measure, of the definitions. Assumes nothing.
 use Rattle.std.specs.Prelude.{◌≡◌}
 use Rattle.std.proofs.Common.{ap, ◌∙◌, arith}
+use Rattle.measures.specs.Measured.{Laws}
 use Rattle.measures.specs.Extents.{no_extent, wider}
 use Rattle.measures.specs.Energies.{capped_energy, added}
 use Rattle.measures.specs.ClipRuns.{run_of, no_run, bridged}
@@ -11,11 +12,6 @@ use Rattle.measures.specs.declared.clip_run.ClipRun.{ClipRun}
 use Rattle.measures.specs.Same.{same_extent, same_energy}
 use Rattle.measures.specs.Ends.{min_assoc, max_assoc, min_top_left, min_top_right, max_end_left, max_end_right}
 use Rattle.measures.specs.Bridges.{same_clip_run, capped_assoc, empty_left, empty_right}
-
-pub record Laws {V : Type 0} (op : V → V → V) (neutral : V) : Type 0 where
-  pub left : (x : V) → op neutral x ≡ x
-  pub right : (x : V) → op x neutral ≡ x
-  pub assoc : (x y z : V) → op (op x y) z ≡ op x (op y z)
 
 pub extent_laws : Laws wider no_extent
 extent_laws = record {

@@ -1,9 +1,8 @@
 // The three measures of a list of frames, with what they mean of it.
-ghost use Rattle.std.specs.Prelude.{◌≡◌, ◌^◌, ◌≤◌, min, length};
+ghost use Rattle.std.specs.Prelude.{◌≡◌, ◌^◌, ◌≤◌, min, length, sum_by};
 ghost use Rattle.measures.specs.Measured.{measured};
 ghost use Rattle.measures.specs.Extents.{frame_extent, no_extent, wider};
 ghost use Rattle.measures.specs.ClipRuns.{run_of, frame_run, no_run, bridged};
-ghost use Rattle.measures.specs.Energies.{total};
 ghost use Rattle.measures.specs.Meanings.{Reaches, Tells};
 
 use crate::clip_run::ClipRun;
@@ -22,8 +21,8 @@ pub fn extent_of<K: Frame>(frames: &[K]) -> Extent
 
 // The sum of the frames' energies; of more than 2 ^ 22 frames it may stop at 2 ^ 53.
 pub fn energy_of<K: Frame>(frames: &[K]) -> Energy
-    ensures stops { result.sum ≡ min (total K.Frame.power frames.now) (2 ^ 53) }
-    ensures sum { length frames.now ≤ 2 ^ 22 → result.sum ≡ total K.Frame.power frames.now }
+    ensures stops { result.sum ≡ min (sum_by K.Frame.power frames.now) (2 ^ 53) }
+    ensures sum { length frames.now ≤ 2 ^ 22 → result.sum ≡ sum_by K.Frame.power frames.now }
 {
     measure_of::<K, Energy>(frames)
 }

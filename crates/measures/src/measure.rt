@@ -1,5 +1,6 @@
 // What every measure offers, and the laws that it shows.
 ghost use Rattle.std.specs.Prelude.{◌≡◌};
+ghost use Rattle.measures.specs.Measured.{Laws};
 
 use frames::Frame;
 
@@ -26,9 +27,6 @@ pub trait Measure<K: Frame>: Copy + Drop {
     fn join(self, other: Self) -> Self
         ensures { result ≡ joined self other };
 
-    ghost left: { (x : Self) → joined neutral x ≡ x };
-
-    ghost right: { (x : Self) → joined x neutral ≡ x };
-
-    ghost assoc: { (x y z : Self) → joined (joined x y) z ≡ joined x (joined y z) };
+    // The joining is associative, and the neutral value changes nothing.
+    ghost laws: { Laws joined neutral };
 }

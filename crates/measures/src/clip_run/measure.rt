@@ -1,7 +1,6 @@
 // The clip run as a measure: heads and tails go on over a stretch that is clipped whole, and the best may bridge the joint.
 ghost use Rattle.std.specs.Prelude.{◌≡◌, ◌+◌, ◌^◌, ◌<◌, if◌then◌else◌, nat_eq};
-ghost use Rattle.measures.specs.Runs.{Sound, run};
-ghost use Rattle.measures.specs.ClipRuns.{run_of, frame_run, no_run, bridged};
+ghost use Rattle.measures.specs.ClipRuns.{frame_run, no_run, bridged};
 ghost use Rattle.measures.specs.Laws.{clip_run_laws};
 
 use crate::clip_run::ClipRun;
@@ -19,18 +18,7 @@ fn go_on(run: u32, count: u32, more: u32) -> u32
     if run == count { count + more } else { run }
 }
 
-fn made(count: u32, head: u32, tail: u32, best: u32) -> ClipRun
-    requires { Sound count head tail best }
-    ensures { run_of result ≡ run count head tail best }
-{
-    ClipRun {
-        count,
-        head,
-        tail,
-        best,
-    }
-}
-
+#[tactic(auto, using(crate::specs::Bridges::same_clip_run))]
 impl<K: Frame> Measure<K> for ClipRun {
     ghost worth = { λ x. frame_run (K.Frame.clips x) };
 
@@ -38,29 +26,42 @@ impl<K: Frame> Measure<K> for ClipRun {
 
     ghost neutral = { no_run };
 
-    ghost left = { clip_run_laws.left };
-
-    ghost right = { clip_run_laws.right };
-
-    ghost assoc = { clip_run_laws.assoc };
+    ghost laws = { clip_run_laws };
 
     fn of(frame: K) -> ClipRun {
         let run = u32::from(frame.clipped());
-        made(1, run, run, run)
+        ClipRun {
+            count: 1,
+            head: run,
+            tail: run,
+            best: run,
+        }
     }
 
     fn none() -> ClipRun {
-        made(0, 0, 0, 0)
+        ClipRun {
+            count: 0,
+            head: 0,
+            tail: 0,
+            best: 0,
+        }
     }
 
     fn join(self, other: ClipRun) -> ClipRun {
         let count = self.count + other.count;
         if count > MOST {
-            return made(MOST, MOST, MOST, MOST);
+            return ClipRun {
+                count: MOST,
+                head: MOST,
+                tail: MOST,
+                best: MOST,
+            };
         }
-        let head = go_on(self.head, self.count, other.head);
-        let tail = go_on(other.tail, other.count, self.tail);
-        let best = self.best.max(other.best).max(self.tail + other.head);
-        made(count, head, tail, best)
+        ClipRun {
+            count,
+            head: go_on(self.head, self.count, other.head),
+            tail: go_on(other.tail, other.count, self.tail),
+            best: self.best.max(other.best).max(self.tail + other.head),
+        }
     }
 }

@@ -6,6 +6,7 @@ use crate::energy::Energy;
 use crate::measure::Measure;
 use frames::Frame;
 
+#[tactic(auto, using(crate::specs::Same::same_energy))]
 impl<K: Frame> Measure<K> for Energy {
     ghost worth = { λ x. capped_energy (K.Frame.power x) };
 
@@ -13,11 +14,7 @@ impl<K: Frame> Measure<K> for Energy {
 
     ghost neutral = { capped_energy 0 };
 
-    ghost left = { energy_laws.left };
-
-    ghost right = { energy_laws.right };
-
-    ghost assoc = { energy_laws.assoc };
+    ghost laws = { energy_laws };
 
     fn of(frame: K) -> Energy {
         Energy::new(u64::from(frame.energy()))

@@ -6,6 +6,7 @@ use crate::extent::Extent;
 use crate::measure::Measure;
 use frames::Frame;
 
+#[tactic(auto, using(crate::specs::Same::same_extent))]
 impl<K: Frame> Measure<K> for Extent {
     ghost worth = { frame_extent K.Frame };
 
@@ -13,11 +14,7 @@ impl<K: Frame> Measure<K> for Extent {
 
     ghost neutral = { no_extent };
 
-    ghost left = { extent_laws.left };
-
-    ghost right = { extent_laws.right };
-
-    ghost assoc = { extent_laws.assoc };
+    ghost laws = { extent_laws };
 
     fn of(frame: K) -> Extent {
         Extent::new(frame.low(), frame.high())

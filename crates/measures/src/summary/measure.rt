@@ -16,11 +16,7 @@ impl<K: Frame> Measure<K> for Summary {
 
     ghost neutral = { no_summary };
 
-    ghost left = { summary_laws.left };
-
-    ghost right = { summary_laws.right };
-
-    ghost assoc = { summary_laws.assoc };
+    ghost laws = { summary_laws };
 
     fn of(frame: K) -> Summary {
         Summary {
