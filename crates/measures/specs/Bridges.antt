@@ -17,9 +17,8 @@ pub same_clip_run : (x y : ClipRun) → run_of x ≡ run_of y → x ≡ y
 same_clip_run x y e =
     subst (λ (r : Run). (s : SoundRun r) → x ≡ clip_run_from r s) e (λ s. ap (clip_run_from (run_of x)) (sound_prop _ _ _ _ x.sound s)) y.sound
 
-pub run_path : {c h t b c' h' t' b' : ℕ} → c ≡ c' → h ≡ h' → t ≡ t' → b ≡ b' → run c h t b ≡ run c' h' t' b'
-run_path {c} {h} {t} {b} {c'} {h'} {t'} {b'} p q r s =
-    ap (λ n. run n h t b) p ∙ ap (λ n. run c' n t b) q ∙ ap (λ n. run c' h' n b) r ∙ ap (λ n. run c' h' t' n) s
+run_path : {c h t b c' h' t' b' : ℕ} → c ≡ c' → h ≡ h' → t ≡ t' → b ≡ b' → run c h t b ≡ run c' h' t' b'
+run_path p q r s = cc
 
 pub capped_over : (r : Run) → 2 ^ 30 < r.count → capped r ≡ longest
 capped_over r h = cond-true _ _ _ (lt-ltb (2 ^ 30) r.count h)

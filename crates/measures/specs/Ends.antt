@@ -12,17 +12,13 @@ pub max_assoc : (x y z : ℤ) → int_max (int_max x y) z ≡ int_max x (int_max
 max_assoc x y z = omega (arith, ints, clamps)
 
 pub min_top_left : (x : ℤ) → mag x < 2 ^ 31 → int_min (pos 2147483647) x ≡ x
-min_top_left (pos n) f = omega (arith, ints, clamps)
-min_top_left (negsuc n) f = omega (arith, ints, clamps)
+min_top_left x f = omega (arith, ints, clamps)
 
 pub min_top_right : (x : ℤ) → mag x < 2 ^ 31 → int_min x (pos 2147483647) ≡ x
-min_top_right (pos n) f = omega (arith, ints, clamps)
-min_top_right (negsuc n) f = omega (arith, ints, clamps)
+min_top_right x f = omega (arith, ints, clamps)
 
 pub max_end_left : (x : ℤ) → mag x < 2 ^ 31 → int_max (negsuc 2147483647) x ≡ x
-max_end_left (pos n) f = omega (arith, ints, clamps)
-max_end_left (negsuc n) f = omega (arith, ints, clamps)
+max_end_left x f = omega (arith, ints, clamps)
 
 pub max_end_right : (x : ℤ) → mag x < 2 ^ 31 → int_max x (negsuc 2147483647) ≡ x
-max_end_right (pos n) f = omega (arith, ints, clamps)
-max_end_right (negsuc n) f = omega (arith, ints, clamps)
+max_end_right x f = omega (arith, ints, clamps)

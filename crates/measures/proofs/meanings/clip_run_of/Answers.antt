@@ -5,8 +5,5 @@ use Rattle.measures.specs.declared.clip_run.ClipRun.{ClipRun}
 use Rattle.measures.proofs.Longest.{run_tells}
 use Rattle.measures.proofs.meanings.clip_run_of.Goals as goal
 
-pub returns : goal.returns
-returns g c =
-    let clips = g.K.Frame.clips in
-    let xs = c.args.frames.now in
-    record { value = c.measure_of.ensures.value; tells = λ short. subst (λ (r : ClipRun). Tells clips xs (run_of r)) (sym c.measure_of.ensures.value) (run_tells clips xs short) }
+pub returns-clause-tells : goal.returns-clause-tells
+returns-clause-tells g c short = subst (λ (r : ClipRun). Tells g.K.Frame.clips c.args.frames.now (run_of r)) (sym c.measure_of.ensures.value) (run_tells g.K.Frame.clips c.args.frames.now short)
