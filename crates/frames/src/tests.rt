@@ -9,12 +9,11 @@ const ENDS: [i16; 6] = [-32768, -32767, -2, 0, 1, 32767];
 fn comes_back<K: Frame>(frame: K, width: usize) -> Option<(K, K)> {
     let mut bytes = [0u8; 4];
     let mut line = [0u8; 8];
-    if width > 4 || frame.write_bytes(&mut bytes).is_err() || frame.write_line(&mut line).is_err() {
-        return None;
-    }
+    frame.write_bytes(&mut bytes).ok()?;
+    frame.write_line(&mut line).ok()?;
     Some((
-        K::read_bytes(&bytes[0..width])?,
-        K::read_line(&line[0..2 * width])?,
+        K::read_bytes(bytes.get(..width)?)?,
+        K::read_line(line.get(..2 * width)?)?,
     ))
 }
 

@@ -10,7 +10,7 @@ pub struct Energy {
     ghost stopped: { sum ≤ 2 ^ 53 },
 }
 
-const MOST: u64 = 9007199254740992;
+const MOST: u64 = 1 << 53;
 
 impl Energy {
     // An energy of `sum`, or of 2 ^ 53 where it is more.

@@ -4,7 +4,8 @@ ghost use Rattle.std.specs.Int.Signed.{mag};
 
 pub mod measure;
 
-// Both fit 32 bits. The extent of no frame has the largest such number for its low, and the smallest for its high.
+// Both fit 32 bits. The extent of no frame has the largest such number for its low, and the smallest for its high,
+// so that it is neutral in joining.
 #[derive(Clone, Copy, PartialEq, Eq, Debug)]
 pub struct Extent {
     pub low: i32,

@@ -8,7 +8,7 @@ use crate::measure::Measure;
 use frames::Frame;
 
 // The most frames that a clip run counts; a longer stretch is told as one of so many, all clipped.
-const MOST: u32 = 1073741824;
+const MOST: u32 = 1 << 30;
 
 // The run at one end of a stretch of `count` frames, which goes on by `more` where it is the whole stretch.
 fn go_on(run: u32, count: u32, more: u32) -> u32
