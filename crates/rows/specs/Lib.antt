@@ -1,4 +1,5 @@
 pub mod Pieces
 pub mod Mending
+pub mod Entries
 pub mod Cutting
 pub mod Laws

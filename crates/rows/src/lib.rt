@@ -4,12 +4,14 @@
 mod cutting;
 mod entry;
 pub mod laws;
+mod length;
 mod mending;
 mod piece;
 mod row;
 
 pub use cutting::pieces_of;
 pub use entry::Entry;
+pub use length::row_len;
 pub use mending::{mend, new_blocks};
 pub use piece::Piece;
 pub use row::Row;

@@ -4,6 +4,7 @@ ghost use Rattle.rows.specs.Pieces.{frames};
 ghost use Rattle.rows.specs.Cutting.{wholes};
 
 use crate::entry::Entry;
+use crate::length::row_len;
 use std::alloc::Global;
 
 #[derive(Drop)]
@@ -46,11 +47,6 @@ impl Row {
     pub fn len(&self) -> usize
         ensures { result ≡ min (frames (wholes self.now.entries.items)) (2 ^ 64 - 1) }
     {
-        let mut total: usize = 0;
-        let entries = self.entries();
-        for entry in entries {
-            total = total.saturating_add(entry.len);
-        }
-        total
+        row_len(self.entries())
     }
 }

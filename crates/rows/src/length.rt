@@ -1,0 +1,14 @@
+// How long a list of entries is.
+ghost use Rattle.std.specs.Prelude.{◌≡◌, ◌-◌, ◌^◌, min};
+ghost use Rattle.rows.specs.Entries.{total};
+
+use crate::entry::Entry;
+
+// How many frames a row has, held at the largest `usize`.
+pub fn row_len(entries: &[Entry]) -> usize
+    ensures { result ≡ min (total entries.now) (2 ^ 64 - 1) }
+{
+    entries
+        .iter()
+        .fold(0usize, |sum, entry| sum.saturating_add(entry.len))
+}
