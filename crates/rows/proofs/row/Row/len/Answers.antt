@@ -1,7 +1,6 @@
-use Rattle.std.proofs.Common.{ap, arith}
-use Rattle.rows.specs.Entries.{total}
+use Rattle.std.proofs.Common.{arith}
 use Rattle.rows.proofs.Lengths.{total_frames}
 use Rattle.rows.proofs.row.Row.len.Goals as goal
 
 pub returns : goal.returns
-returns c = omega (arith, c.row_len.ensures, ap total c.entries.ensures, total_frames c.args.self.now.entries.items)
+returns c = grind (arith, total_frames c.args.self.now.entries.items)
