@@ -1,5 +1,6 @@
 // Rows, cutting and mending on examples: inside blocks and at borders, and with lengths that add up past 64 bits.
 use crate::{Entry, Piece, Row, mend, new_blocks, pieces_of};
+use std::ops::Range;
 use std::process::Abort;
 use std::test::Fail;
 
@@ -21,11 +22,10 @@ fn mends(
 fn cuts(
     rt: &(impl Abort + AllocGlobal),
     row: &[Entry],
-    from: usize,
-    to: usize,
+    span: Range<usize>,
     into: &[Piece],
 ) -> Result<(), Fail> {
-    let v = pieces_of(rt.alloc(), row, from, to)?;
+    let v = pieces_of(rt.alloc(), row, span)?;
     assert_eq!(rt; v.as_slice(), into);
     Ok(())
 }
@@ -62,12 +62,11 @@ fn past_64_bits(rt: HostRuntime) -> Result<(), Fail> {
         block: 7,
         len: LONGEST,
     };
-    cuts(&rt, &[entry, entry], 0, LONGEST, &[long])?;
+    cuts(&rt, &[entry, entry], 0..LONGEST, &[long])?;
     cuts(
         &rt,
         &[entry, entry],
-        1,
-        LONGEST,
+        1..LONGEST,
         &[Piece::loose(LONGEST - 1)],
     )
 }
@@ -83,13 +82,12 @@ fn inside_and_at_borders(rt: HostRuntime) -> Result<(), Fail> {
     cuts(
         &rt,
         &row,
-        2,
-        13,
+        2..13,
         &[Piece::loose(3), middle, Piece::loose(2)],
     )?;
-    cuts(&rt, &row, 0, 5, &[Piece::whole(1, 5)])?;
-    cuts(&rt, &row, 5, 18, &[middle, Piece::whole(3, 7)])?;
-    cuts(&rt, &row, 5, 5, &[])
+    cuts(&rt, &row, 0..5, &[Piece::whole(1, 5)])?;
+    cuts(&rt, &row, 5..18, &[middle, Piece::whole(3, 7)])?;
+    cuts(&rt, &row, 5..5, &[])
 }
 
 #[test]

@@ -17,8 +17,8 @@ loop-entry-preserved c =
 pub returns : goal.returns
 returns c =
     let es = c.args.row.now in
-    let f = c.args.from in
-    let t = c.args.to in
+    let f = c.args.span.start in
+    let t = c.args.span.end in
     let is = cut_end es c.loop-entry.entry-index c.loop-entry.start c.loop-entry.end _ _ c.loop-entry-test.false c.loop-entry.invariant in
     record {
       items = is;
