@@ -26,16 +26,6 @@ impl Row {
         }
     }
 
-    // The row of these entries; more than 64 are given back.
-    pub fn of(entries: Vec<Entry>) -> Result<Row, Vec<Entry>>
-        ensures { MatchResult result (λ row. (row.entries ≡ entries) × (vec_len entries ≤ 64)) (λ back. (back ≡ entries) × (64 < vec_len entries)) }
-    {
-        if entries.len() > Row::MOST {
-            return Err(entries);
-        }
-        Ok(Row { entries })
-    }
-
     // The entries from left to right.
     pub fn entries(&self) -> &[Entry]
         ensures { result.now ≡ self.now.entries.items }
@@ -48,5 +38,19 @@ impl Row {
         ensures { result ≡ min (frames (wholes self.now.entries.items)) (2 ^ 64 - 1) }
     {
         row_len(self.entries())
+    }
+}
+
+// The row of these entries; more than 64 are given back.
+impl TryFrom<Vec<Entry>> for Row {
+    type Error = Vec<Entry>;
+
+    ghost try_from_gives = { λ entries result. MatchResult result (λ row. (row.entries ≡ entries) × (vec_len entries ≤ 64)) (λ back. (back ≡ entries) × (64 < vec_len entries)) };
+
+    fn try_from(entries: Vec<Entry>) -> Result<Row, Vec<Entry>> {
+        if entries.len() > Row::MOST {
+            return Err(entries);
+        }
+        Ok(Row { entries })
     }
 }
