@@ -1,4 +1,4 @@
-pub mod Lengths
+pub mod Sums
 pub mod Turns
 pub mod Ways
 pub mod Keeps

@@ -1,10 +1,10 @@
--- What one turn of the loops of `mend`, `pieces_of` and `new_blocks` keeps. Assumes nothing.
-use Rattle.std.proofs.Common.{◌≡◌, ℕ, ◌+◌, ◌-◌, ◌<◌, ◌≤◌, Bool, true, false, cond, not, List, [], ◌∷◌, ◌++◌, length, get_or, take, drop, is_some, Some, None, Option, sym, refl, ap, ◌∙◌, append_assoc, append-nil, arith}
-use Rattle.std.proofs.lemmas.List.{drop_more, drop_all, take_rest, at_drop_more}
+-- What one turn of the loops of `mend` and `pieces_of` keeps. Assumes nothing.
+use Rattle.std.proofs.Common.{◌≡◌, ℕ, ◌+◌, ◌-◌, ◌<◌, ◌≤◌, List, [], ◌∷◌, ◌++◌, length, get_or, take, drop, Some, None, Option, sym, refl, ap, ◌∙◌, append_assoc, append-nil, arith}
+use Rattle.std.proofs.lemmas.List.{drop_more, drop_all, take_rest}
 use Rattle.rows.specs.declared.piece.Piece.{Piece}
 use Rattle.rows.specs.declared.mending.Met.{Met}
 use Rattle.rows.specs.declared.entry.Entry.{Entry}
-use Rattle.rows.specs.Pieces.{emit, one_if_loose, count_of_new}
+use Rattle.rows.specs.Pieces.{emit}
 use Rattle.rows.specs.Mending.{meeting, mended, mended_from}
 use Rattle.rows.specs.Cutting.{part_of, cut}
 
@@ -42,14 +42,3 @@ cut_again es i d f t f' t' o out more all h is fs ts pushed inv =
 
 pub cut_end : (es : List Entry) (i f t : ℕ) (out all : List Piece) → length es ≤ i → out ++ cut (drop i es) f t ≡ all → out ≡ all
 cut_end es i f t out all h inv = sym (append-nil out) ∙ sym (ap (λ l. out ++ cut l f t) (drop_all i es h)) ∙ inv
-
-loose_counts : (o : Option ℕ) (r : Bool) → is_some o ≡ not r → one_if_loose o ≡ cond r 1 0
-loose_counts None true e = refl
-loose_counts None false e = cc
-loose_counts (Some b) true e = cc
-loose_counts (Some b) false e = refl
-
--- r says whether the piece at i is loose, and m is the count n with it
-pub count_again : (ps : List Piece) (i : ℕ) (d : Piece) (r : Bool) (n m all : ℕ) → i < length ps → is_some (get_or ps i d).block ≡ not r → m ≡ n + cond r 1 0 → (n + count_of_new (drop i ps) ≡ all) × (n ≤ i) → (m + count_of_new (drop (i + 1) ps) ≡ all) × (m ≤ i + 1)
-count_again ps i d true n m all h e is inv = (omega (arith, at_drop_more count_of_new ps i d h, loose_counts (get_or ps i d).block true e), omega arith)
-count_again ps i d false n m all h e is inv = (omega (arith, at_drop_more count_of_new ps i d h, loose_counts (get_or ps i d).block false e), omega arith)

@@ -72,11 +72,5 @@ pub fn mend(heap: Global, limit: usize, pieces: &[Piece]) -> Result<Vec<Piece>, 
 pub fn new_blocks(pieces: &[Piece]) -> usize
     ensures { result ≡ count_of_new pieces.now }
 {
-    let mut count = 0;
-    for piece in pieces {
-        if piece.block.is_none() {
-            count += 1;
-        }
-    }
-    count
+    pieces.iter().filter(|piece| piece.block.is_none()).count()
 }

@@ -1,5 +1,5 @@
 use Rattle.std.proofs.Common.{rules}
-use Rattle.rows.proofs.Lengths.{held}
+use Rattle.rows.proofs.Sums.{held}
 use Rattle.rows.proofs.length.row_len.Goals as goal
 
 pub returns : goal.returns

@@ -1,5 +1,5 @@
 use Rattle.std.proofs.Common.{arith}
-use Rattle.rows.proofs.Lengths.{total_frames}
+use Rattle.rows.proofs.Sums.{total_frames}
 use Rattle.rows.proofs.row.Row.len.Goals as goal
 
 pub returns : goal.returns
