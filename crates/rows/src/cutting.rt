@@ -39,9 +39,7 @@ pub fn pieces_of(heap: Global, row: &[Entry], span: Range<usize>) -> Result<Vec<
     let mut start = span.start;
     let mut end = span.end;
     for entry in row {
-        if let Some(piece) = part(*entry, start..end) {
-            out.push(piece)?;
-        }
+        out.extend(part(*entry, start..end))?;
         start = start.saturating_sub(entry.len);
         end = end.saturating_sub(entry.len);
     }

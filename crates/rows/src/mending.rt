@@ -59,9 +59,7 @@ pub fn mend(heap: Global, limit: usize, pieces: &[Piece]) -> Result<Vec<Piece>, 
     let mut last = *first;
     for next in rest {
         let met = meet(limit, last, *next);
-        if let Some(settled) = met.settled {
-            out.push(settled)?;
-        }
+        out.extend(met.settled)?;
         last = met.last;
     }
     out.push(last)?;
