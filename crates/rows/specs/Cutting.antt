@@ -1,5 +1,5 @@
 -- The pieces that a row has from the position f to the position t. Assumes nothing.
-use Rattle.std.specs.Prelude.{◌≡◌, ℕ, ◌+◌, ◌-◌, ◌≤◌, min, cond, List, [], ◌∷◌, ◌++◌, Some, None, Option, ◌==◌}
+use Rattle.std.specs.Prelude.{◌≡◌, ℕ, ◌+◌, ◌-◌, ◌≤◌, min, cond, List, [], ◌∷◌, ◌++◌, Some, None, Option, ◌==◌, map}
 use Rattle.rows.specs.declared.piece.Piece.{Piece}
 use Rattle.rows.specs.declared.entry.Entry.{Entry}
 use Rattle.rows.specs.Pieces.{loose_of, whole_of, emit, frames, Whole, Stands, NoneEmpty}
@@ -19,8 +19,7 @@ cut (e ∷ es) f t = emit (part_of e f t) (cut es (f - e.len) (t - e.len))
 
 -- the row as whole blocks
 abbrev pub wholes : List Entry → List Piece
-wholes [] = []
-wholes (e ∷ es) = whole_of e.block e.len ∷ wholes es
+wholes es = map (λ e. whole_of e.block e.len) es
 
 -- What holds of ps, the pieces of the row es from f to t:
 

@@ -1,5 +1,5 @@
 -- Lists of pieces: their frames, their sizes under the block limit L, and where a piece stands. Assumes nothing.
-use Rattle.std.specs.Prelude.{◌≡◌, ℕ, ◌+◌, ◌/◌, ◌<◌, ◌≤◌, ◌⊎◌, List, [], ◌∷◌, Some, None, Option}
+use Rattle.std.specs.Prelude.{◌≡◌, ℕ, ◌+◌, ◌/◌, ◌<◌, ◌≤◌, ◌⊎◌, List, [], ◌∷◌, ◌++◌, Some, None, Option, option_to_list}
 use Rattle.std.specs.List.{AllByRecursion}
 use Rattle.rows.specs.declared.piece.Piece.{Piece}
 
@@ -13,8 +13,7 @@ whole_of b n = record { block = Some b; len = n }
 
 -- a piece, if there is one, in front of others
 abbrev pub emit : Option Piece → List Piece → List Piece
-emit None ps = ps
-emit (Some p) ps = p ∷ ps
+emit o ps = option_to_list o ++ ps
 
 -- how many frames the pieces have in all
 abbrev pub frames : List Piece → ℕ
