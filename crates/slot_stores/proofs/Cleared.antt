@@ -29,6 +29,13 @@ module _ (xs : List ℕ) (size total : ℕ) (fits : total * size ≤ length xs) 
       cleared_free n k (omega arith) (omega (arith, ne)))
       (cases_eq k n)
 
+-- clearing slots leaves their number
+pub cleared_slots : (width limit : ℕ) (xs : List ℕ) (n : ℕ) → n ≤ image_slots width limit xs
+    → image_slots width limit (cleared xs (slot_bytes width limit) n) ≡ image_slots width limit xs
+cleared_slots width limit xs n h =
+    let size = slot_bytes width limit in
+    ap (count_of_slots limit size) (cleared_length xs size (image_slots width limit xs) (slots_fit limit size (length xs)) (omega arith) n h)
+
 -- where all slots are cleared, all numbers are free
 pub image_empty : {F : Type 0} (width : ℕ) (decode : List ℕ → F) (limit : ℕ) (xs : List ℕ)
     → imaged width decode limit (cleared xs (slot_bytes width limit) (image_slots width limit xs)) ≡ unused limit (image_slots width limit xs)
@@ -40,7 +47,7 @@ image_empty {F} width decode limit xs =
     let six : 6 ≤ size = omega arith in
     let held : ℕ → List F = λ k. slot_block width decode limit (slot ys size k) in
     ap (λ bs. record { limit = limit; ailing = false; blocks = bs })
-    (ap (λ m. numbered held (count_of_slots limit size m)) (cleared_length xs size n fits six n (omega arith)) ∙
+    (ap (numbered held) (cleared_slots width limit xs n (omega arith)) ∙
     numbered_same held n [] (λ k h.
     ap (λ l. decoded width decode (cond (leb l limit) l 0) (drop 6 (slot ys size k))) (cleared_free xs size n fits six n k (omega arith) h) ∙
     nothing width decode limit (drop 6 (slot ys size k))))

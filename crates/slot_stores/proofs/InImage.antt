@@ -19,6 +19,10 @@ pub slot_room : (width limit : ℕ) (xs : List ℕ) (i : ℕ) → i < image_slot
 slot_room width limit xs i h =
     omega (arith, within i (image_slots width limit xs) (slot_bytes width limit) h, slots_fit limit (slot_bytes width limit) (length xs))
 
+-- what a put writes of a block has room in a slot
+pub block_room : (width limit count : ℕ) → count ≤ limit → 6 + count * width ≤ slot_bytes width limit
+block_room width limit count short = let m = mul-le-mul_right {m = count} {n = limit} width short in omega (arith, mul_comm width limit)
+
 -- a block of no frames
 pub nothing : {F : Type 0} (width : ℕ) (decode : List ℕ → F) (limit : ℕ) (bs : List ℕ) → decoded width decode (cond (leb 0 limit) 0 0) bs ≡ []
 nothing width decode limit bs = cond_both (leb 0 limit) 0 0 (λ n. decoded width decode n bs ≡ []) (λ _. refl) (λ _. refl)
@@ -53,11 +57,11 @@ module _ {F : Type 0} (width : ℕ) (decode : List ℕ → F) (limit : ℕ) (xs 
   image_put encode long back b short =
       let size = slot_bytes width limit in
       let len = written_length encode width long b in
-      let m = mul-le-mul_right {m = length b} {n = limit} width short in
+      let fits = block_room width limit (length b) short in
       let rest = drop (length (written encode b)) (slot xs size i) in
       let four_is = four_back (length b) (omega (arith, limit_of limit size (length xs) i h)) in
       ap (λ n. imaged width decode limit (paste xs (i * size) (written encode b) n)) (sym len) ∙
-      image_set (written encode b) b (omega (arith, mul_comm width limit))
+      image_set (written encode b) b (omega arith)
       (ap (λ n. decoded width decode (cond (leb n limit) n 0) (flat_map encode b ++ rest)) four_is ∙
       ap (λ t. decoded width decode (cond t (length b) 0) (flat_map encode b ++ rest)) (le-leb (length b) limit short) ∙
       decoded_back encode width long decode back b rest)
@@ -93,8 +97,8 @@ module _ {F : Type 0} (width : ℕ) (decode : List ℕ → F) (limit : ℕ) (xs 
         let m = mul-le-mul_right {m = offset + count} {n = limit} width (omega arith) in
         omega (arith, mul_comm width limit)
 
-    pub frames_room : i * slot_bytes width limit + 6 + offset * width + count * width ≤ length xs
-    frames_room = omega (arith, slot_room width limit xs i (taken_slot some), in_slot, add-mul offset count width)
+    pub part_room : 6 + offset * width + count * width ≤ slot_bytes width limit
+    part_room = omega (arith, in_slot, add-mul offset count width)
 
     pub frames_read : decoded width decode count (take (count * width) (drop (i * slot_bytes width limit + 6 + offset * width) xs)) ≡ take count (drop offset (block (imaged width decode limit xs) i))
     frames_read =

@@ -58,12 +58,9 @@ module _ {F : Type 0} (s : MemoryStore F) where
   pub taken : (i : ℕ) → length (block (memory s) i) ≢ 0 → i < s.slots
   taken i h = ⊎_elim (λ lt. lt) (λ past. absurd (h (ap length (block_past i past)))) (cases_lt i s.slots)
 
-  -- a part of a block that is there lies within the frames
-  pub part_room : (i offset count : ℕ) → length (block (memory s) i) ≢ 0 → offset + count ≤ length (block (memory s) i)
-      → i * s.limit + offset + count ≤ s.frames.len
-  part_room i offset count some fits =
-      let h = taken i some in
-      omega (arith, room i h, length_in_slot i h, s.sized i, s.frames.ok.0)
+  -- a part of a block that is there lies within its slot
+  pub part_room : (i offset count : ℕ) → length (block (memory s) i) ≢ 0 → offset + count ≤ length (block (memory s) i) → offset + count ≤ s.limit
+  part_room i offset count some fits = omega (arith, length_in_slot i (taken i some), s.sized i)
 
   pub part_is : (i offset count : ℕ) → length (block (memory s) i) ≢ 0 → offset + count ≤ length (block (memory s) i)
       → take count (drop (i * s.limit + offset) (vec_items s.frames)) ≡ take count (drop offset (block (memory s) i))

@@ -1,3 +1,4 @@
+pub mod Told
 pub mod Pasted
 pub mod Numbered
 pub mod Framed

@@ -1,8 +1,12 @@
 -- What stands in a list after a part of it was overwritten.
 use Rattle.std.proofs.Common.{◌≡◌, ℕ, ◌+◌, ◌-◌, ◌≤◌, ◌⊎◌, List, ◌++◌, length, take, drop, sym, refl, ap, ◌∙◌, ⊎_elim, append_assoc, arith, length-append}
 use lib.Seq.{paste, take-append-add}
-use Rattle.std.proofs.lemmas.List.{take_at, drop_at, drop-drop, take-take, drop-take, take-append-le, length-take-le}
+use borrow.Rule.Slice.PartMut.{put_mid}
+use Rattle.std.specs.Vec.{with_items}
+use Rattle.std.specs.declared.vec.Vec.{Vec}
+use Rattle.std.proofs.lemmas.List.{with_items_is, take_at, drop_at, drop-drop, take-take, drop-take, take-append-le, length-take-le}
 use Rattle.std.proofs.lemmas.List.Edits.{length-paste, drop-paste, paste_all}
+use Rattle.std.proofs.lemmas.Slice.{put_mid-paste}
 
 module _ {X : Type 0} where
   -- the part itself
@@ -37,22 +41,12 @@ module _ {X : Type 0} where
   pub paste_length : (xs : List X) (at : ℕ) (s : List X) → at + length s ≤ length xs → length (paste xs at s (length s)) ≡ length xs
   paste_length xs at s fits = length-paste xs at s (length s) fits (omega arith)
 
-  -- what comes before is written after
-  pub paste_before : (d : List X) (at n m : ℕ) (s t : List X) → n ≡ length s → m ≡ length t → at + (n + m) ≤ length d
-      → paste (paste d (at + n) t m) at s n ≡ paste d at (s ++ t) (n + m)
-  paste_before d at n m s t en em fits =
-      let p = paste d (at + n) t m in
-      let all = paste_all d (at + n) t m em in
-      let tail = drop (at + n + m) d in
-      let long : length (take (at + n) d) ≡ at + n = length-take-le (at + n) d (omega arith) in
-      let front : take at p ≡ take at d =
-      ap (take at) all ∙ take-append-le at (take (at + n) d) (t ++ tail) (omega arith) ∙ take-take at (at + n) d (omega arith) in
-      let back : drop (at + n) p ≡ t ++ tail = ap (drop (at + n)) all ∙ drop_at (take (at + n) d) (t ++ tail) (at + n) long in
-      let e : n + m ≡ length (s ++ t) = omega (arith, length-append s t) in
-      let j : at + n + m ≡ at + (n + m) = omega arith in
-      paste_all p at s n en ∙ ap (λ l. l ++ (s ++ drop (at + n) p)) front ∙ ap (λ l. take at d ++ (s ++ l)) back ∙
-      ap (λ l. take at d ++ l) (sym (append_assoc s t tail)) ∙ ap (λ k. take at d ++ ((s ++ t) ++ drop k d)) j ∙
-      sym (paste_all d at (s ++ t) (n + m) e)
+  -- a part of a vector's items was written over
+  pub written_over : {Z : Type 0} (v : Vec X Z) (at k n : ℕ) (all ys zs : List X) → all ≡ v.items → length all ≡ v.len → ys ≡ zs → n ≡ k → n ≡ length zs
+      → at + n ≤ v.len → (with_items v (put_mid at k all ys)).items ≡ paste v.items at zs n
+  written_over v at k n all ys zs is len same count long fits =
+      let pasted = put_mid-paste at k all ys zs n same count long in
+      with_items_is v (put_mid at k all ys) (ap length pasted ∙ length-paste all at zs n (omega arith) (omega arith) ∙ len) ∙ pasted ∙ ap (λ l. paste l at zs n) is
 
   -- a longer part, at the front of which it lies
   pub pasted_front : (xs : List X) (at size : ℕ) (s : List X) → length s ≤ size → at + size ≤ length xs

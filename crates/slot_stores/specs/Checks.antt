@@ -1,5 +1,5 @@
 -- The check of a slot: two sums, both 0 at first.
-use Rattle.std.specs.Prelude.{ℕ, ◌+◌, ◌%◌, List, [], ◌∷◌}
+use Rattle.std.specs.Prelude.{ℕ, ◌+◌, ◌%◌, List, fold}
 use Rattle.slot_stores.specs.declared.check.Check.{Check}
 
 abbrev pub no_check : Check
@@ -11,5 +11,4 @@ grown s b = record { first = (s.first + b) % 255; second = (s.second + (s.first 
 
 -- a check after more bytes
 abbrev pub summed : Check → List ℕ → Check
-summed s [] = s
-summed s (b ∷ bs) = summed (grown s b) bs
+summed = fold grown

@@ -25,10 +25,6 @@ impl Check {
     pub(crate) fn over(self, bytes: &[u8]) -> Check
         ensures { result ≡ summed self bytes.now }
     {
-        let mut sum = self;
-        for b in bytes {
-            sum = sum.with(*b);
-        }
-        sum
+        bytes.iter().fold(self, |sum, byte| sum.with(*byte))
     }
 }

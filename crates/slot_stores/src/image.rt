@@ -1,10 +1,10 @@
 // A store in the bytes of an image, whose format specs/Image gives. It never fails.
-ghost use Rattle.std.specs.Prelude.{◌≡◌, ◌≤◌};
+ghost use Rattle.std.specs.Prelude.{◌≡◌, ◌+◌, ◌*◌, ◌<◌, ◌≤◌, vec_len};
 ghost use Rattle.slot_stores.specs.Slots.{unused};
 ghost use Rattle.slot_stores.specs.Image.{image_slots, slot_bytes};
 ghost use Rattle.slot_stores.specs.InImage.{image, Begins};
 
-use crate::slots::{overwrite, slot_count};
+use crate::slots::slot_count;
 use frames::Frame;
 use std::marker::PhantomData;
 
@@ -22,17 +22,18 @@ pub struct ImageStore<K> {
 impl<K: Frame> ImageStore<K> {
     // A store with all numbers free, in as many slots as lie whole in the image.
     pub fn new(bytes: Vec<u8>, limit: usize) -> ImageStore<K>
-        ensures meaning { image K.Frame.wide K.Frame.decoded result ≡ unused limit (image_slots K.Frame.wide limit bytes.items) }
-        ensures bytes { Begins K.Frame.wide bytes.items limit result }
+        ensures meaning { image K.Frame result ≡ unused limit (image_slots K.Frame.wide limit bytes.items) }
+        ensures bytes { Begins K.Frame bytes.items limit result }
     {
         let mut store = ImageStore {
             bytes,
             limit,
             kind: PhantomData,
         };
+        // By number: what parts that an iterator lends hold in the end, a proof does not learn.
         for number in 0..store.slots() {
-            let at = number * store.slot_size();
-            overwrite(&mut store.bytes, at, &[0, 0, 0, 0]);
+            let at = store.slot_start(number);
+            store.bytes[at..at + 4].fill(0);
         }
         store
     }
@@ -41,11 +42,7 @@ impl<K: Frame> ImageStore<K> {
     pub fn into_bytes(self) -> Vec<u8>
         ensures { result ≡ self.bytes }
     {
-        let ImageStore {
-            bytes,
-            limit: _,
-            kind: _,
-        } = self;
+        let ImageStore { bytes, .. } = self;
         bytes
     }
 
@@ -66,5 +63,14 @@ impl<K: Frame> ImageStore<K> {
         ensures { result ≡ slot_bytes K.Frame.wide self.now.limit }
     {
         6 + K::width() * self.limit
+    }
+
+    // Where a slot begins.
+    fn slot_start(&self, number: usize) -> usize
+        requires { number < image_slots K.Frame.wide self.now.limit self.now.bytes.items }
+        ensures value { result ≡ number * slot_bytes K.Frame.wide self.now.limit }
+        ensures within { result + slot_bytes K.Frame.wide self.now.limit ≤ vec_len self.now.bytes }
+    {
+        number * self.slot_size()
     }
 }

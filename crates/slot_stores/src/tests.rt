@@ -81,7 +81,7 @@ fn image_writes_no_more_than_a_block(rt: HostRuntime) -> Result<(), Fail> {
 #[test]
 fn tripping_fails_once(rt: HostRuntime) -> Result<(), Fail> {
     let memory = MemoryStore::new(vec![in rt.alloc(); Mono::new(0); 8]?, 4);
-    let mut store = Tripping::new(memory, 3);
+    let mut store = Tripping::new(memory, Some(3));
     let mut one = [Mono::new(0)];
     let codes = [
         code(store.put(&[Mono::new(1)])),

@@ -5,5 +5,5 @@ use frames::Frame;
 
 // For whoever reads an image that a store gave back: the check of every slot that holds a block is right.
 pub fn checks_stand<K: Frame>()
-    ensures { ChecksStand K.Frame.wide K.Frame.encoded K.Frame.decoded }
+    ensures { ChecksStand K.Frame }
 {}

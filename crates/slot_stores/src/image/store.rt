@@ -8,16 +8,15 @@ ghost use Rattle.slot_stores.specs.InImage.{image, image_fitting, PutBytes, Rele
 
 use crate::image::ImageStore;
 use crate::image::slot::{block_length, read_frames, write_slot};
-use crate::slots::overwrite;
 use frames::Frame;
 use stores::{Store, StoreError, StoreFault};
 
 impl<K: Frame> Store for ImageStore<K> {
     type Kind = K;
 
-    ghost meaning = { image K.Frame.wide K.Frame.decoded };
+    ghost meaning = { image K.Frame };
 
-    ghost fitting = { image_fitting K.Frame.wide K.Frame.decoded };
+    ghost fitting = { image_fitting K.Frame };
 
     fn capacity(&self) -> usize {
         self.slots()
@@ -35,61 +34,50 @@ impl<K: Frame> Store for ImageStore<K> {
         if number >= self.slots() {
             return 0;
         }
-        let size = self.slot_size();
-        let all = self.bytes.as_slice();
-        block_length(&all[number * size..number * size + size], self.limit)
+        let at = self.slot_start(number);
+        block_length(&self.bytes[at..at + self.slot_size()], self.limit)
     }
 
     fn put(&mut self, frames: &[K]) -> Result<usize, StoreFault>
-        ensures promised { Puts (image K.Frame.wide K.Frame.decoded self.old) frames.now result (image K.Frame.wide K.Frame.decoded self.new) }
-        ensures succeeds { result ≡ put_answer (image K.Frame.wide K.Frame.decoded self.old) (length frames.now) }
-        ensures bytes { PutBytes K.Frame.wide K.Frame.encoded self.old frames.now result self.new }
+        ensures promised { Puts (image K.Frame self.old) frames.now result (image K.Frame self.new) }
+        ensures succeeds { result ≡ put_answer (image K.Frame self.old) (length frames.now) }
+        ensures bytes { PutBytes K.Frame self.old frames.now result self.new }
     {
-        let number = match self.place(frames.len()) {
-            Ok(place) => place,
-            Err(error) => return Err(StoreFault { error, block: None }),
-        };
-        let at = number * self.slot_size();
-        write_slot(&mut self.bytes, at, frames);
+        let number = self.place(frames.len())?;
+        let at = self.slot_start(number);
+        let end = at + 6 + frames.len() * K::width();
+        write_slot(&mut self.bytes[at..end], frames);
         Ok(number)
     }
 
     fn read(&mut self, number: usize, offset: usize, buffer: &mut [K]) -> Result<(), StoreFault>
-        ensures promised { Reads (image K.Frame.wide K.Frame.decoded self.old) number offset buffer.old result buffer.new (image K.Frame.wide K.Frame.decoded self.new) }
-        ensures succeeds { refusal_of_read (image K.Frame.wide K.Frame.decoded self.old) number offset (length buffer.old) ≡ None → is_ok result ≡ true }
+        ensures promised { Reads (image K.Frame self.old) number offset buffer.old result buffer.new (image K.Frame self.new) }
+        ensures succeeds { refusal_of_read (image K.Frame self.old) number offset (length buffer.old) ≡ None → is_ok result ≡ true }
         ensures bytes { self.new ≡ self.old }
     {
-        if let Some(error) = self.read_refusal(number, offset, buffer.len()) {
-            return Err(StoreFault {
-                error,
-                block: Some(number),
-            });
-        }
+        self.check_read(number, offset, buffer.len())
+            .map_err(|error| error.at(number))?;
         let width = K::width();
-        let at = number * self.slot_size() + 6 + offset * width;
+        let at = self.slot_start(number) + 6 + offset * width;
         let end = at + buffer.len() * width;
-        let all = self.bytes.as_slice();
-        read_frames(&all[at..end], buffer);
+        read_frames(&self.bytes[at..end], buffer);
         Ok(())
     }
 
     fn release(&mut self, number: usize) -> Result<(), StoreFault>
-        ensures promised { Releases (image K.Frame.wide K.Frame.decoded self.old) number result (image K.Frame.wide K.Frame.decoded self.new) }
-        ensures bytes { ReleaseBytes K.Frame.wide self.old number result self.new }
+        ensures promised { Releases (image K.Frame self.old) number result (image K.Frame self.new) }
+        ensures bytes { ReleaseBytes K.Frame self.old number result self.new }
     {
         if self.block_len(number) == 0 {
-            return Err(StoreFault {
-                error: StoreError::NoBlock,
-                block: Some(number),
-            });
+            return Err(StoreError::NoBlock.at(number));
         }
-        let at = number * self.slot_size();
-        overwrite(&mut self.bytes, at, &[0, 0, 0, 0]);
+        let at = self.slot_start(number);
+        self.bytes[at..at + 4].fill(0);
         Ok(())
     }
 
     fn rearm(&mut self)
-        ensures promised { image K.Frame.wide K.Frame.decoded self.new ≡ well (image K.Frame.wide K.Frame.decoded self.old) }
+        ensures promised { image K.Frame self.new ≡ well (image K.Frame self.old) }
         ensures bytes { self.new ≡ self.old }
     {}
 }

@@ -1,21 +1,14 @@
 // The memory store's calls.
-ghost use Rattle.std.specs.Prelude.{◌≡◌, ℕ, true, length, is_ok, None, vec_len, slice_index};
+ghost use Rattle.std.specs.Prelude.{◌≡◌, ◌+◌, ◌*◌, ◌<◌, ◌≤◌, true, length, is_ok, None, vec_len};
 ghost use Rattle.stores.specs.Meaning.{well};
 ghost use Rattle.stores.specs.Promise.{Puts, Reads, Releases, refusal_of_read};
 ghost use Rattle.slot_stores.specs.Slots.{put_answer, count_of_slots, unused};
 ghost use Rattle.slot_stores.specs.Memory.{memory, memory_fitting, PutFrames};
 
 use crate::memory::MemoryStore;
-use crate::slots::{copy_out, overwrite, slot_count};
+use crate::slots::slot_count;
 use frames::Frame;
 use stores::{Store, StoreError, StoreFault};
-
-// The lengths where every number is free.
-fn no_lengths() -> [u32; 1024]
-    ensures { (n : ℕ) → slice_index result n ≡ 0 }
-{
-    [0; 1024]
-}
 
 impl<K: Frame> MemoryStore<K> {
     // A store with all numbers free, in as many slots of `limit` frames as there are whole.
@@ -24,12 +17,11 @@ impl<K: Frame> MemoryStore<K> {
         ensures frames { result.frames ≡ frames }
     {
         let slots = slot_count(limit, limit, frames.len());
-        let lengths = no_lengths();
         MemoryStore {
             frames,
             limit,
             slots,
-            lengths,
+            lengths: [0; 1024],
         }
     }
 
@@ -37,13 +29,17 @@ impl<K: Frame> MemoryStore<K> {
     pub fn into_frames(self) -> Vec<K>
         ensures { result ≡ self.frames }
     {
-        let MemoryStore {
-            frames,
-            limit: _,
-            slots: _,
-            lengths: _,
-        } = self;
+        let MemoryStore { frames, .. } = self;
         frames
+    }
+
+    // Where a slot begins.
+    fn slot_start(&self, number: usize) -> usize
+        requires { number < self.now.slots }
+        ensures value { result ≡ number * self.now.limit }
+        ensures within { result + self.now.limit ≤ vec_len self.now.frames }
+    {
+        number * self.limit
     }
 }
 
@@ -79,11 +75,9 @@ impl<K: Frame> Store for MemoryStore<K> {
         ensures succeeds { result ≡ put_answer (memory self.old) (length frames.now) }
         ensures frames { PutFrames self.old frames.now result self.new }
     {
-        let number = match self.place(frames.len()) {
-            Ok(place) => place,
-            Err(error) => return Err(StoreFault { error, block: None }),
-        };
-        overwrite(&mut self.frames, number * self.limit, frames);
+        let number = self.place(frames.len())?;
+        let at = self.slot_start(number);
+        self.frames[at..at + frames.len()].copy_from_slice(frames);
         self.lengths[number] = frames.len() as u32;
         Ok(number)
     }
@@ -93,13 +87,10 @@ impl<K: Frame> Store for MemoryStore<K> {
         ensures succeeds { refusal_of_read (memory self.old) number offset (length buffer.old) ≡ None → is_ok result ≡ true }
         ensures frames { self.new.frames ≡ self.old.frames }
     {
-        if let Some(error) = self.read_refusal(number, offset, buffer.len()) {
-            return Err(StoreFault {
-                error,
-                block: Some(number),
-            });
-        }
-        copy_out(&self.frames, number * self.limit + offset, buffer);
+        self.check_read(number, offset, buffer.len())
+            .map_err(|error| error.at(number))?;
+        let at = self.slot_start(number) + offset;
+        buffer.copy_from_slice(&self.frames[at..at + buffer.len()]);
         Ok(())
     }
 
@@ -107,11 +98,8 @@ impl<K: Frame> Store for MemoryStore<K> {
         ensures promised { Releases (memory self.old) number result (memory self.new) }
         ensures frames { self.new.frames ≡ self.old.frames }
     {
-        if number >= self.slots || self.lengths[number] == 0 {
-            return Err(StoreFault {
-                error: StoreError::NoBlock,
-                block: Some(number),
-            });
+        if self.block_len(number) == 0 {
+            return Err(StoreError::NoBlock.at(number));
         }
         self.lengths[number] = 0;
         Ok(())

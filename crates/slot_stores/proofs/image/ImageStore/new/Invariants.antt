@@ -4,7 +4,8 @@ use Rattle.slot_stores.proofs.image.ImageStore.new.Given as goal
 
 abbrev pub invariant-loop-number : goal.invariant-loop-number
 invariant-loop-number g l =
-    let w = g.K.Frame.wide in
-    let xs = vec_items l.initial.store.bytes in
-    let limit = l.initial.store.limit in
-    (l.store.limit ≡ limit) × (l.number-end ≡ image_slots w limit xs) × (vec_items l.store.bytes ≡ cleared xs (slot_bytes w limit) l.number)
+    record {
+      limit : l.store.limit ≡ l.initial.store.limit;
+      end : l.number-end ≡ image_slots g.K.Frame.wide l.initial.store.limit (vec_items l.initial.store.bytes);
+      bytes : vec_items l.store.bytes ≡ cleared (vec_items l.initial.store.bytes) (slot_bytes g.K.Frame.wide l.initial.store.limit) l.number;
+    }

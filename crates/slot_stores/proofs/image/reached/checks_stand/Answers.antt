@@ -2,4 +2,4 @@ use Rattle.slot_stores.proofs.Standing.{checks_stand_lem}
 use Rattle.slot_stores.proofs.image.reached.checks_stand.Goals as goal
 
 pub returns : goal.returns
-returns g c = checks_stand_lem g.K.Frame.wide g.K.Frame.encoded g.K.Frame.decoded g.met.K.Frame.sized g.met.K.Frame.decodes
+returns g c = checks_stand_lem g.K.Frame g.met.K.Frame.sized g.met.K.Frame.decodes

@@ -1,72 +1,34 @@
-use Rattle.std.proofs.Common.{◌<◌, false, length, vec_items, sym, refl, ap, ◌∙◌, arith, rules}
-use Rattle.stores.proofs.Refusals.{put_done, put_refused}
-use Rattle.slot_stores.specs.Slots.{answered, count_of_slots}
+use Rattle.std.proofs.Common.{◌<◌, false, length, vec_items, ap, arith, rules}
+use Rattle.std.proofs.lemmas.Grind.{common_steps}
+use Rattle.stores.proofs.Refusals.{put_done}
 use Rattle.slot_stores.specs.Memory.{memory}
-use Rattle.slot_stores.proofs.InMemory.{few, fits, limit_small, place_slot, room, slot_filled, set_below}
+use Rattle.slot_stores.proofs.Told.{put_told}
+use Rattle.slot_stores.proofs.InMemory.{few, fits, place_slot, slot_filled}
 use Rattle.slot_stores.proofs.memory.store.MemoryStoreStore.put.Goals as goal
 
-pub returns-in-Err : goal.returns-in-Err
-returns-in-Err g c =
-    record {
-      promised = put_refused (memory c.args.self.now) c.args.frames.now c.in-Err.error c.in-Err.ensures;
-      succeeds = ap answered c.in-Err.ensures;
-      frames = refl;
-    }
+pub returns-in_err-number-clause-promised : goal.returns-in_err-number-clause-promised
+returns-in_err-number-clause-promised g c =
+    put_told (memory c.args.self.now) c.args.frames.now _ c.from_residual.result c.in_err-number.ensures c.from_residual.ensures.1
 
-pub overflow_mul-number : goal.overflow_mul-number
-overflow_mul-number g c =
-    let s = c.args.self.now in
-    let p = place_slot s (length c.args.frames.now) c.in-Ok.place c.in-Ok.ensures in
-    let h = room s c.in-Ok.place p.0 in
-    search rules
-
-pub overwrite-requires : goal.overwrite-requires
-overwrite-requires g c =
-    let s = c.args.self.now in
-    let p = place_slot s (length c.args.frames.now) c.in-Ok.place c.in-Ok.ensures in
-    omega (arith, room s c.in-Ok.place p.0, s.frames.ok.0)
-
-pub offset_bounds-self-number : goal.offset_bounds-self-number
-offset_bounds-self-number g c =
-    let s = c.args.self.now in
-    let p = place_slot s (length c.args.frames.now) c.in-Ok.place c.in-Ok.ensures in
-    let h = few s in
-    search rules
+pub slot_start-at-requires : goal.slot_start-at-requires
+slot_start-at-requires g c = (place_slot c.args.self.now (length c.args.frames.now) _ c.in_ok-number.ensures).0
 
 pub bounds-self-number : goal.bounds-self-number
 bounds-self-number g c =
     let s = c.args.self.now in
-    let p = place_slot s (length c.args.frames.now) c.in-Ok.place c.in-Ok.ensures in
+    let p = place_slot s (length c.args.frames.now) _ c.in_ok-number.ensures in
     omega (arith, few s)
 
-pub overflow_cast-self : goal.overflow_cast-self
-overflow_cast-self g c =
-    let s = c.args.self.now in
-    let p = place_slot s (length c.args.frames.now) c.in-Ok.place c.in-Ok.ensures in
-    let h = limit_small s c.in-Ok.place p.0 in
-    search rules
+pub returns-clause-frames : goal.returns-clause-frames
+returns-clause-frames g c = grind (arith, common_steps)
 
-pub invariant_of-self : goal.invariant_of-self
-invariant_of-self g c =
+pub returns-clause-promised : goal.returns-clause-promised
+returns-clause-promised g c =
     let s = c.args.self.now in
-    let p = place_slot s (length c.args.frames.now) c.in-Ok.place c.in-Ok.ensures in
-    record {
-      whole = s.whole ∙ ap (count_of_slots s.limit s.limit) (sym c.overwrite.ensures.len);
-      sized = set_below s.lengths c.in-Ok.place _ s.limit (omega (arith, p.1)) s.sized;
-    }
-
-pub returns : goal.returns
-returns g c =
-    let s = c.args.self.now in
-    let n = c.in-Ok.place in
     let b = c.args.frames.now in
-    let p = place_slot s (length b) n c.in-Ok.ensures in
+    let p = place_slot s (length b) _ c.in_ok-number.ensures in
     let small = few s in
-    let lt : n < length s.lengths = search rules in
-    record {
-      promised = put_done (memory s) b n _ c.in-Ok.ensures
-          (ap (λ bs. record { limit = s.limit; ailing = false; blocks = bs })
-          (slot_filled (vec_items s.frames) s.limit s.slots s.lengths n b _ p.0 lt (fits s) s.sized p.1 c.overwrite.ensures.items));
-      succeeds = ap answered c.in-Ok.ensures;
-      frames = c.overwrite.ensures.items;
-    }
+    let lt : c.in_ok-number.number < length s.lengths = search rules in
+    put_done (memory s) b _ _ c.in_ok-number.ensures
+    (ap (λ bs. record { limit = s.limit; ailing = false; blocks = bs })
+    (slot_filled (vec_items s.frames) s.limit s.slots s.lengths _ b _ p.0 lt (fits s) s.sized p.1 (returns-clause-frames g c)))
