@@ -1,6 +1,7 @@
 -- A part of a stretch, as a part of its row. Assumes nothing.
 use Rattle.std.proofs.Common.{◌≡◌, ℕ, ◌+◌, ◌-◌, ◌^◌, ◌<◌, ◌≤◌, List, length, take, drop, sym, refl, ap, ◌∙◌, subst, arith, length-drop, Bor}
 use Rattle.std.proofs.lemmas.List.{drop-take, drop-drop, take-take, length-take-le}
+use Rattle.std.specs.declared.ops.Range.{Range}
 use Rattle.rows.specs.declared.entry.Entry.{Entry}
 use Rattle.stores.specs.Meaning.{Meaning}
 use Rattle.reading.specs.declared.stretch.Stretch.{Stretch}
@@ -17,7 +18,7 @@ module _ {F : Type 0} where
 
   -- a sound stretch has as many frames as its extent
   pub stretch_length : (m : Meaning F) (s : Stretch F) → Sound m s → length (stretch m s) ≡ extent s
-  stretch_length m (Row entries from to) sound = length-take-le (to - from) (drop from (frames m entries.now)) (omega (arith, sound.1, sound.2, length-drop from (frames m entries.now)))
+  stretch_length m (Row entries span) sound = length-take-le (span.end - span.start) (drop span.start (frames m entries.now)) (omega (arith, sound.1, sound.2, length-drop span.start (frames m entries.now)))
   stretch_length m (Given fs) sound = refl
 
   -- what n frames of a stretch from skip on are in its row
@@ -28,14 +29,15 @@ module _ {F : Type 0} where
     pub same : take n (drop (from + skip) (frames m es)) ≡ take n (drop skip (stretch m s))
     pub among : (start b : ℕ) → start ≡ from + skip → Among (block_at es) start n b → Among (origin s) skip n b
 
-  pub within : (m : Meaning F) (s : Stretch F) (es : Bor (List Entry)) (from to skip n : ℕ) → s ≡ Row es from to → Sound m s → skip + n ≤ extent s → Within m s es.now from skip n
-  within m s es from to skip n is sound h =
+  pub within : (m : Meaning F) (s : Stretch F) (es : Bor (List Entry)) (span : Range ℕ) (skip n : ℕ) → s ≡ Row es span → Sound m s → skip + n ≤ extent s → Within m s es.now span.start skip n
+  within m s es span skip n is sound h =
+      let from = span.start in
       let P : Stretch F → Type 0 = λ z. Sound m z → skip + n ≤ extent z → Within m z es.now from skip n in
-      let at : P (Row es from to) = λ sound h. record {
+      let at : P (Row es span) = λ sound h. record {
         tied = sound.0;
         long = omega (arith, sound.1, sound.2);
         small = omega (arith, sound.1, sound.3);
-        same = take_part (frames m es.now) from (to - from) skip n h;
+        same = take_part (frames m es.now) from (span.end - from) skip n h;
         among = λ start b e a. (a.0 - from, omega (arith, a.1), omega (arith, a.1, a.2), ap (block_at es.now) (omega (arith, a.1)) ∙ a.3);
       } in
       subst P (sym is) at sound h

@@ -15,17 +15,17 @@ Among of at n b = (k : ℕ) × (at ≤ k) × (k < at + n) × (of k ≡ Some b)
 module _ {F : Type 0} where
   -- how many frames a stretch has
   abbrev pub extent : Stretch F → ℕ
-  extent (Row entries from to) = to - from
+  extent (Row entries span) = span.end - span.start
   extent (Given fs) = length fs.now
 
   -- the frames of a stretch
   abbrev pub stretch : Meaning F → Stretch F → List F
-  stretch m (Row entries from to) = take (to - from) (drop from (frames m entries.now))
+  stretch m (Row entries span) = take (span.end - span.start) (drop span.start (frames m entries.now))
   stretch m (Given fs) = fs.now
 
   -- a stretch of a row lies within it, and the row's entries are tied to the store
   abbrev pub Sound : Meaning F → Stretch F → Type 0
-  Sound m (Row entries from to) = Tied m entries.now × (from ≤ to) × (to ≤ length (frames m entries.now)) × (to < 2 ^ 64)
+  Sound m (Row entries span) = Tied m entries.now × (span.start ≤ span.end) × (span.end ≤ length (frames m entries.now)) × (span.end < 2 ^ 64)
   Sound m (Given fs) = Unit {0}
 
   -- and so does every stretch
@@ -38,7 +38,7 @@ module _ {F : Type 0} where
 
   -- the block that the frame at the place k of a stretch is of; frames that are given are of none
   abbrev pub origin : Stretch F → ℕ → Option ℕ
-  origin (Row entries from to) k = block_at entries.now (from + k)
+  origin (Row entries span) k = block_at entries.now (span.start + k)
   origin (Given fs) k = None
 
   -- the block that the frame at the place k of the joined stretches is of

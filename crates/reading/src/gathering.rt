@@ -1,6 +1,6 @@
 // The frames of joined stretches, gathered into a buffer.
-ghost use Rattle.std.specs.Prelude.{◌≡◌, ◌+◌, ◌≤◌, length, MatchResult};
-ghost use Rattle.reading.specs.Faults.{after};
+ghost use Rattle.std.specs.Prelude.{◌≡◌, ◌+◌, ◌≤◌, length};
+ghost use Rattle.reading.specs.Faults.{Leaves};
 ghost use Rattle.reading.specs.Stretches.{extent, sequence, Sound, AllSound, Fills, Gathers};
 
 use crate::row::read_row;
@@ -15,15 +15,13 @@ fn fill<S: Store>(
     part: &mut [S::Kind],
 ) -> Result<(), StoreFault>
     requires { skip + length part.old ≤ extent stretch.now }
-    ensures store { MatchResult result (λ _. S.Store.meaning store.new ≡ S.Store.meaning store.old) (λ f. S.Store.meaning store.new ≡ after (S.Store.meaning store.old) f.error) }
+    ensures store { Leaves (λ f. f.error) result (S.Store.meaning store.old) (S.Store.meaning store.new) }
     ensures told { Sound (S.Store.meaning store.old) stretch.now → Fills (S.Store.meaning store.old) stretch.now skip part.old result part.new (S.Store.meaning store.new) }
 {
     match stretch {
-        Stretch::Row {
-            entries,
-            from,
-            to: _,
-        } => read_row(store, entries, from.saturating_add(skip), part)?,
+        Stretch::Row { entries, span } => {
+            read_row(store, entries, span.start.saturating_add(skip), part)?
+        }
         Stretch::Given(frames) => part.copy_from_slice(&frames[skip..skip + part.len()]),
     }
     Ok(())
@@ -37,7 +35,7 @@ pub fn gather<S: Store>(
     at: usize,
     buffer: &mut [S::Kind],
 ) -> Result<(), StoreFault>
-    ensures store { MatchResult result (λ _. S.Store.meaning store.new ≡ S.Store.meaning store.old) (λ f. S.Store.meaning store.new ≡ after (S.Store.meaning store.old) f.error) }
+    ensures store { Leaves (λ f. f.error) result (S.Store.meaning store.old) (S.Store.meaning store.new) }
     ensures told { AllSound (S.Store.meaning store.old) stretches.now → at + length buffer.old ≤ length (sequence (S.Store.meaning store.old) stretches.now) → Gathers (S.Store.meaning store.old) stretches.now at buffer.old result buffer.new (S.Store.meaning store.new) }
 {
     let mut skip = at;

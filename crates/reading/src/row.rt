@@ -1,6 +1,6 @@
 // Rows over a store: how long a row is, and its frames from a position on.
-ghost use Rattle.std.specs.Prelude.{◌≡◌, ◌+◌, ◌-◌, ◌^◌, ◌<◌, ◌≤◌, min, length, MatchResult};
-ghost use Rattle.reading.specs.Faults.{after};
+ghost use Rattle.std.specs.Prelude.{◌≡◌, ◌+◌, ◌-◌, ◌^◌, ◌<◌, ◌≤◌, min, length};
+ghost use Rattle.reading.specs.Faults.{Leaves};
 ghost use Rattle.reading.specs.Rows.{total, frames, Tied, RowReads};
 
 use crate::fault::ReadFault;
@@ -26,7 +26,7 @@ pub fn read_row<S: Store>(
     start: usize,
     buffer: &mut [S::Kind],
 ) -> Result<(), ReadFault>
-    ensures store { MatchResult result (λ _. S.Store.meaning store.new ≡ S.Store.meaning store.old) (λ f. S.Store.meaning store.new ≡ after (S.Store.meaning store.old) f.fault.error) }
+    ensures store { Leaves (λ f. f.fault.error) result (S.Store.meaning store.old) (S.Store.meaning store.new) }
     ensures told { Tied (S.Store.meaning store.old) entries.now → start + length buffer.old ≤ length (frames (S.Store.meaning store.old) entries.now) → start + length buffer.old < 2 ^ 64 → RowReads (S.Store.meaning store.old) entries.now start buffer.old result buffer.new (S.Store.meaning store.new) }
 {
     let mut skip = start;

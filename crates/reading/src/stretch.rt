@@ -3,14 +3,14 @@ ghost use Rattle.std.specs.Prelude.{◌≡◌};
 ghost use Rattle.reading.specs.Stretches.{extent};
 
 use rows::Entry;
+use std::ops::Range;
 
 // A span of a row, or frames that are given.
 #[derive(Drop)]
 pub enum Stretch<'a, K> {
     Row {
         entries: &'a [Entry],
-        from: usize,
-        to: usize,
+        span: Range<usize>,
     },
     Given(&'a [K]),
 }
@@ -21,11 +21,7 @@ impl<'a, K> Stretch<'a, K> {
         ensures { result ≡ extent self.now }
     {
         match self {
-            Stretch::Row {
-                entries: _,
-                from,
-                to,
-            } => to.saturating_sub(*from),
+            Stretch::Row { entries: _, span } => span.len(),
             Stretch::Given(frames) => frames.len(),
         }
     }

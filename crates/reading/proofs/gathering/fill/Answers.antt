@@ -11,7 +11,7 @@ returns-in_err-read_row-in-Row g c =
     rw (p.1, p.2) record {
       store = c.in_err-read_row-in-Row.ensures.store;
       told = λ sound.
-          let i = within (g.S.Store.meaning c.args.store.now) c.args.stretch.now c.in-Row.entries c.in-Row.from c.in-Row.to c.args.skip (length c.args.part.now) c.in-Row.is sound c.requires in
+          let i = within (g.S.Store.meaning c.args.store.now) c.args.stretch.now c.in-Row.entries c.in-Row.span c.args.skip (length c.args.part.now) c.in-Row.is sound c.requires in
           let stop = c.in_err-read_row-in-Row.ensures.told i.tied (omega (arith, i.long)) (omega (arith, i.small)) in
           (stop.entry.block, i.among c.saturating_add.result stop.entry.block (omega (arith, i.small)) (stops_among i.tied stop), stop.fails);
     }
@@ -22,8 +22,8 @@ returns-in_ok-read_row-in-Row g c = record {
   told = λ sound.
       let m = g.S.Store.meaning c.args.store.now in
       let n = length c.args.part.now in
-      let i = within m c.args.stretch.now c.in-Row.entries c.in-Row.from c.in-Row.to c.args.skip n c.in-Row.is sound c.requires in
-      let start : c.saturating_add.result ≡ c.in-Row.from + c.args.skip = omega (arith, i.small) in
+      let i = within m c.args.stretch.now c.in-Row.entries c.in-Row.span c.args.skip n c.in-Row.is sound c.requires in
+      let start : c.saturating_add.result ≡ c.in-Row.span.start + c.args.skip = omega (arith, i.small) in
       let a = c.in_ok-read_row-in-Row.ensures.told i.tied (omega (arith, i.long)) (omega (arith, i.small)) in
       (a.0 ∙ ap (λ z. take n (drop z (frames m c.in-Row.entries.now))) start ∙ i.same, a.1);
 }
