@@ -1,11 +1,11 @@
 -- A part of a stretch, as a part of its row. Assumes nothing.
-use Rattle.std.proofs.Common.{◌≡◌, ℕ, ◌+◌, ◌-◌, ◌^◌, ◌<◌, ◌≤◌, List, length, take, drop, sym, refl, ap, ◌∙◌, subst, arith, length-drop, Bor}
-use Rattle.std.proofs.lemmas.List.{drop-take, drop-drop, take-take, length-take-le}
+use Rattle.std.proofs.Common.{◌≡◌, ℕ, ◌+◌, ◌-◌, ◌^◌, ◌<◌, ◌≤◌, List, length, take, drop, sym, ap, ◌∙◌, subst, arith, Bor}
+use Rattle.std.proofs.lemmas.List.{drop-take, drop-drop, take-take}
 use Rattle.std.specs.declared.ops.Range.{Range}
 use Rattle.rows.specs.declared.entry.Entry.{Entry}
 use Rattle.stores.specs.Meaning.{Meaning}
 use Rattle.reading.specs.declared.stretch.Stretch.{Stretch}
-use Rattle.reading.specs.declared.stretch.Stretch.TheVariants.{Row, Given}
+use Rattle.reading.specs.declared.stretch.Stretch.TheVariants.{Row}
 use Rattle.reading.specs.Rows.{frames, Tied, block_at}
 use Rattle.reading.specs.Stretches.{extent, stretch, Sound, Among, origin}
 
@@ -15,11 +15,6 @@ module _ {F : Type 0} where
   take_part xs from len skip n h =
       let cut : len ≡ skip + (len - skip) = omega arith in
       sym (ap (λ k. take n (drop skip (take k (drop from xs)))) cut ∙ ap (take n) (drop-take skip (len - skip) (drop from xs)) ∙ take-take n (len - skip) (drop skip (drop from xs)) (omega arith) ∙ ap (take n) (drop-drop skip from xs))
-
-  -- a sound stretch has as many frames as its extent
-  pub stretch_length : (m : Meaning F) (s : Stretch F) → Sound m s → length (stretch m s) ≡ extent s
-  stretch_length m (Row entries span) sound = length-take-le (span.end - span.start) (drop span.start (frames m entries.now)) (omega (arith, sound.1, sound.2, length-drop span.start (frames m entries.now)))
-  stretch_length m (Given fs) sound = refl
 
   -- what n frames of a stretch from skip on are in its row
   pub record Within (m : Meaning F) (s : Stretch F) (es : List Entry) (from skip n : ℕ) : Type 0 where

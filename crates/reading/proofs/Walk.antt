@@ -116,13 +116,11 @@ module _ {X A : Type 0} (f : X → List A) where
             fresh = λ _. refl;
           }
 
-    -- what the buffer holds where the walk breaks off
-    pub walk_wrote : new ≡ take done (drop start (flat_map f xs)) ++ drop done old
-    walk_wrote =
+    -- the frames that are written
+    pub walk_front : take done new ≡ take done (drop start (flat_map f xs))
+    walk_front =
         let fits : done ≤ length new = omega (arith, w.within, w.long) in
-        let front : take done (drop start (flat_map f xs)) ≡ take done new =
-        sym (take-take done (length old) (drop start (flat_map f xs)) w.within) ∙ ap (take done) w.target ∙ take_at (take done new) _ done (length-take-le done new fits) in
-        sym (take-append-drop done new) ∙ ap (λ z. z ++ drop done new) (sym front) ∙ ap (λ z. take done (drop start (flat_map f xs)) ++ z) w.rest
+        sym (sym (take-take done (length old) (drop start (flat_map f xs)) w.within) ∙ ap (take done) w.target ∙ take_at (take done new) _ done (length-take-le done new fits))
 
   -- the same walk by other names
   pub walk_as : {xs : List X} {start : ℕ} {old : List A} {i skip skip' done done' : ℕ} {new new' : List A} → skip' ≡ skip → done' ≡ done → new' ≡ new → Walk xs start old i skip done new → Walk xs start old i skip' done' new'

@@ -49,11 +49,6 @@ module _ {F : Type 0} where
   abbrev pub Misses : Meaning F → (ℕ → Option ℕ) → ℕ → ℕ → StoreFault → Meaning F → Type 0
   Misses m of at n f m' = (b : ℕ) × Among of at n b × Fails m b f m'
 
-  -- a part is filled from one stretch
-  abbrev pub Fills : Meaning F → Stretch F → ℕ → List F → {U : Type 0} → Result U StoreFault → List F → Meaning F → Type 0
-  Fills m s skip old (Ok _) new m' = (new ≡ take (length old) (drop skip (stretch m s))) × (m' ≡ m)
-  Fills m s skip old (Err f) new m' = Misses m (origin s) skip (length old) f m'
-
   -- a buffer is filled from the joined stretches; where a read fails it may hold anything
   abbrev pub Gathers : Meaning F → List (Stretch F) → ℕ → List F → {U : Type 0} → Result U StoreFault → List F → Meaning F → Type 0
   Gathers m ss at old (Ok _) new m' = (new ≡ take (length old) (drop at (sequence m ss))) × (m' ≡ m)

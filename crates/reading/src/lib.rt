@@ -3,8 +3,10 @@
 
 mod fault;
 mod gathering;
+mod part;
 mod row;
 mod stretch;
+mod walking;
 
 pub use fault::ReadFault;
 pub use gathering::gather;

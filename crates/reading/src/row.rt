@@ -1,11 +1,38 @@
 // Rows over a store: how long a row is, and its frames from a position on.
-ghost use Rattle.std.specs.Prelude.{◌≡◌, ◌+◌, ◌-◌, ◌^◌, ◌<◌, ◌≤◌, min, length};
-ghost use Rattle.reading.specs.Faults.{Leaves};
-ghost use Rattle.reading.specs.Rows.{total, frames, Tied, RowReads};
+ghost use Rattle.std.specs.Prelude.{◌≡◌, ◌+◌, ◌-◌, ◌^◌, ◌<◌, ◌≤◌, min, false, length};
+ghost use Rattle.std.proofs.Common.{sym};
+ghost use Rattle.stores.specs.Meaning.{block};
+ghost use Rattle.reading.specs.Faults.{Leaves, Fails};
+ghost use Rattle.reading.specs.Rows.{total, frames, Ties, Tied, RowReads};
 
 use crate::fault::ReadFault;
+use crate::part::Part;
+use crate::walking::walk;
 use rows::Entry;
-use stores::Store;
+use stores::{Store, StoreFault};
+
+// An entry of a row, whose frames are its block's.
+impl<S: Store> Part<S> for Entry {
+    ghost size = { λ e. e.len };
+
+    ghost frames = { λ m e. block m e.block };
+
+    ghost tied = { Ties };
+
+    ghost serves = { λ m. m.ailing ≡ false };
+
+    ghost fails = { λ m e skip old f new m'. Fails m e.block f m' × (new ≡ old) };
+
+    fn len(&self) -> usize {
+        self.len
+    }
+
+    fn fill(&self, store: &mut S, skip: usize, buffer: &mut [S::Kind]) -> Result<(), StoreFault> {
+        store.read(self.block, skip, buffer)
+    }
+
+    ghost sized = { λ m e ties. sym ties.1 };
+}
 
 // How many frames a row has, held at the largest `usize`.
 pub fn row_len(entries: &[Entry]) -> usize
@@ -29,26 +56,5 @@ pub fn read_row<S: Store>(
     ensures store { Leaves (λ f. f.fault.error) result (S.Store.meaning store.old) (S.Store.meaning store.new) }
     ensures told { Tied (S.Store.meaning store.old) entries.now → start + length buffer.old ≤ length (frames (S.Store.meaning store.old) entries.now) → start + length buffer.old < 2 ^ 64 → RowReads (S.Store.meaning store.old) entries.now start buffer.old result buffer.new (S.Store.meaning store.new) }
 {
-    let mut skip = start;
-    let mut done: usize = 0;
-    for entry in entries {
-        let left = buffer.len() - done;
-        if left == 0 {
-            break;
-        }
-        if skip >= entry.len {
-            skip -= entry.len;
-        } else {
-            let count = left.min(entry.len - skip);
-            if let Err(fault) = store.read(entry.block, skip, &mut buffer[done..done + count]) {
-                return Err(ReadFault {
-                    fault,
-                    at: start.saturating_add(done),
-                });
-            }
-            skip = 0;
-            done += count;
-        }
-    }
-    Ok(())
+    walk(store, entries, start, buffer)
 }

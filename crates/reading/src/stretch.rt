@@ -1,7 +1,4 @@
 // Where the frames of new blocks come from.
-ghost use Rattle.std.specs.Prelude.{◌≡◌};
-ghost use Rattle.reading.specs.Stretches.{extent};
-
 use rows::Entry;
 use std::ops::Range;
 
@@ -13,16 +10,4 @@ pub enum Stretch<'a, K> {
         span: Range<usize>,
     },
     Given(&'a [K]),
-}
-
-impl<'a, K> Stretch<'a, K> {
-    // How many frames the stretch has.
-    pub(crate) fn len(&self) -> usize
-        ensures { result ≡ extent self.now }
-    {
-        match self {
-            Stretch::Row { entries: _, span } => span.len(),
-            Stretch::Given(frames) => frames.len(),
-        }
-    }
 }
