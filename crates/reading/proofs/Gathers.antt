@@ -11,10 +11,6 @@ use Rattle.reading.proofs.Places.{located_in, length-joined, all_around}
 use Rattle.reading.specs.StretchesLemmas.{stretch_length}
 
 module _ {F : Type 0} where
-  -- sound stretches have together as many frames as their extents say
-  sequence_length : (m : Meaning F) (ss : List (Stretch F)) → AllSound m ss → length (sequence m ss) ≡ sum_by extent ss
-  sequence_length m ss sound = length-joined extent (stretch m) (Sound m) (stretch_length m) ss sound
-
   -- stretches as parts
   abbrev pub stretches : {S : Type 0} → part.Ghosts (Stretch F) S F
   stretches = record {
@@ -31,7 +27,7 @@ module _ {F : Type 0} where
       let a = b.fails.1 in
       let s = b.part in
       let before = sum_by extent b.before in
-      let long : length (sequence m b.before) ≡ before = sequence_length m b.before (all_around (Sound m) ss b.before s b.behind b.split sound).0 in
+      let long : length (sequence m b.before) ≡ before = length-joined extent (stretch m) (Sound m) (stretch_length m) b.before (all_around (Sound m) ss b.before s b.behind b.split sound).0 in
       let asked : length (take b.count (drop b.done old)) ≤ b.count = omega (arith, length-take b.count (drop b.done old)) in
       let k = before + a.0 in
       let inside : k - before ≡ a.0 = omega arith in

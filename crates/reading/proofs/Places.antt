@@ -37,3 +37,7 @@ all_around {X} P xs before x behind split all =
     let Q : List X → Type 0 = AllByRecursion P in
     let r = all_parts P before (x ∷ behind) (subst Q split all) in
     (r.0, r.1.0)
+
+-- and of the element at an index
+pub all_at : {X : Type 0} (P : X → Type 0) (xs : List X) (i : ℕ) (x : X) → i < length xs → x ≡ get_or xs i x → AllByRecursion P xs → P x
+all_at P xs i x here read all = (all_around P xs (take i xs) x (drop (i + 1) xs) (split_at xs i x here read) all).1

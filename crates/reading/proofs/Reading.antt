@@ -7,16 +7,12 @@ use Rattle.stores.specs.Meaning.{Meaning, block}
 use Rattle.reading.specs.declared.fault.ReadFault.{ReadFault}
 use Rattle.reading.specs.declared.part.Part as part
 use Rattle.reading.specs.Faults.{Fails}
-use Rattle.reading.specs.Rows.{total, block_at, frames, Ties, Tied, Stops, RowReads}
+use Rattle.reading.specs.Rows.{block_at, frames, Ties, Tied, Stops, RowReads}
 use Rattle.reading.specs.Stretches.{Among}
 use Rattle.reading.specs.Walks.{Breaks, Walks}
 use Rattle.reading.proofs.Places.{located_in, length-joined, all_around}
 
 module _ {F : Type 0} where
-  -- a tied row has as many frames as its entries say
-  pub frames_length : (m : Meaning F) (es : List Entry) → Tied m es → length (frames m es) ≡ total es
-  frames_length m es tied = length-joined (λ e. e.len) (λ e. block m e.block) (Ties m) (λ e t. sym t.1) es tied
-
   -- entries as parts
   abbrev pub entries : {S : Type 0} → part.Ghosts Entry S F
   entries = record {
@@ -52,6 +48,6 @@ module _ {F : Type 0} where
   pub stops_among : {m m' : Meaning F} {es : List Entry} {start : ℕ} {old : List F} {f : ReadFault} {new : List F} → Tied m es → (s : Stops m es start old f new m') → Among (block_at es) start (length old) s.entry.block
   stops_among {m} {m'} {es} {start} {old} {f} {new} tied s =
       let around = all_around (Ties m) es s.before s.entry s.behind s.split tied in
-      let long = frames_length m s.before around.0 in
+      let long = length-joined (λ e. e.len) (λ e. block m e.block) (Ties m) (λ e t. sym t.1) s.before around.0 in
       let k = start + (length (frames m s.before) - start) in
       (k, omega arith, omega (arith, s.some, s.low), ap (λ z. block_at z k) s.split ∙ located_in (λ e. e.len) (λ e _. _) s.before s.entry s.behind k (omega arith) (omega (arith, s.high, around.1.1, long)))

@@ -21,7 +21,7 @@ module _ {F : Type 0} where
     pub tied : Tied m es
     pub long : from + skip + n ≤ length (frames m es)
     pub small : from + skip + n < 2 ^ 64
-    pub same : take n (drop (from + skip) (frames m es)) ≡ take n (drop skip (stretch m s))
+    pub same : (start : ℕ) → start ≡ from + skip → take n (drop start (frames m es)) ≡ take n (drop skip (stretch m s))
     pub among : (start b : ℕ) → start ≡ from + skip → Among (block_at es) start n b → Among (origin s) skip n b
 
   pub within : (m : Meaning F) (s : Stretch F) (es : Bor (List Entry)) (span : Range ℕ) (skip n : ℕ) → s ≡ Row es span → Sound m s → skip + n ≤ extent s → Within m s es.now span.start skip n
@@ -32,7 +32,7 @@ module _ {F : Type 0} where
         tied = sound.0;
         long = omega (arith, sound.1, sound.2);
         small = omega (arith, sound.1, sound.3);
-        same = take_part (frames m es.now) from (span.end - from) skip n h;
+        same = λ start b. ap (λ z. take n (drop z (frames m es.now))) b ∙ take_part (frames m es.now) from (span.end - from) skip n h;
         among = λ start b e a. (a.0 - from, omega (arith, a.1), omega (arith, a.1, a.2), ap (block_at es.now) (omega (arith, a.1)) ∙ a.3);
       } in
       subst P (sym is) at sound h

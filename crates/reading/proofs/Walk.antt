@@ -1,11 +1,11 @@
 -- A walk over the parts f x of a list xs, that copies into a buffer what lies from start on. Assumes nothing.
-use Rattle.std.proofs.Common.{◌≡◌, ℕ, ◌+◌, ◌-◌, ◌<◌, ◌≤◌, min, List, [], ◌∷◌, ◌++◌, length, get_or, take, drop, sym, refl, ap, ◌∙◌, subst, ⊎_elim, arith, length-append, length-drop, take-append-drop}
+use Rattle.std.proofs.Common.{◌≡◌, ℕ, ◌+◌, ◌-◌, ◌<◌, ◌≤◌, min, List, [], ◌∷◌, ◌++◌, length, get_or, take, drop, sym, refl, ap, ◌∙◌, subst, ⊎_elim, arith, length-append, length-drop}
 use lib.Seq.{take-append-add, drop-append-add}
 use borrow.Rule.Slice.PartMut.{put_mid}
 use Rattle.std.specs.List.{flat_map}
 use Rattle.std.proofs.lemmas.Bool.{cases_lt}
 use Rattle.std.proofs.lemmas.Slice.{take-put_mid, drop-put_mid}
-use Rattle.std.proofs.lemmas.List.{take_more, at_drop_more, at_drop_all, flat_map_more, append-nil, append_assoc, take_all, take_at, take-take, take-append-le, drop-drop, drop-append-le, length-take-le}
+use Rattle.std.proofs.lemmas.List.{take_more, at_drop_more, flat_map_more, append-nil, append_assoc, take_all, take_at, take-take, take-append-le, drop-drop, drop-append-le, length-take-le}
 
 module _ {A : Type 0} where
   -- a front of a list of two parts
@@ -32,10 +32,6 @@ module _ {A : Type 0} where
   pub length_part : (a k n : ℕ) (xs : List A) → k ≡ n → a + n ≤ length xs → length (take k (drop a xs)) ≡ n
   length_part a k n xs e h = length-take-le k (drop a xs) (omega (arith, length-drop a xs)) ∙ e
 
-  -- a part written as it was
-  pub putMid_same : (a k : ℕ) (xs : List A) → put_mid a k xs (take k (drop a xs)) ≡ xs
-  putMid_same a k xs = ap (λ z. take a xs ++ z) (take-append-drop k (drop a xs)) ∙ take-append-drop a xs
-
 module _ {X A : Type 0} (f : X → List A) where
   -- one part more, of what is to come and of what has been
   rest_is : (xs : List X) (i : ℕ) (x : X) → i < length xs → x ≡ get_or xs i x → flat_map f (drop i xs) ≡ f x ++ flat_map f (drop (i + 1) xs)
@@ -56,16 +52,6 @@ module _ {X A : Type 0} (f : X → List A) where
     pub fresh : 0 < done → skip ≡ 0
 
   module _ (xs : List X) (start : ℕ) (old : List A) (i skip done : ℕ) (new : List A) (w : Walk xs start old i skip done new) where
-    -- the end: nothing is left to write
-    pub walk_done : length old ≤ done → new ≡ take (length old) (drop start (flat_map f xs))
-    walk_done h =
-        let a : done ≡ length old = omega (arith, w.within) in
-        let none : length old - done ≡ 0 = omega arith in
-        sym (w.target ∙ ap (λ k. take done new ++ take k (drop skip (flat_map f (drop i xs)))) none ∙ append-nil (take done new) ∙ take_all done new (omega (arith, w.long)))
-
-    pub walk_all : length xs ≤ i → new ≡ take (length old) (drop start (flat_map f xs))
-    walk_all h = walk_done (omega (arith, w.enough, ap length (at_drop_all (flat_map f) xs i h)))
-
     module _ (x : X) (here : i < length xs) (read : x ≡ get_or xs i x) where
       pub walk_skip : length (f x) ≤ skip → done < length old → Walk xs start old (i + 1) (skip - length (f x)) done new
       walk_skip h more =

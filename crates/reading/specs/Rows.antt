@@ -1,14 +1,10 @@
 -- What a row of entries stands for in a store, and what reading it gives. Assumes nothing.
-use Rattle.std.specs.Prelude.{◌≡◌, ℕ, ◌+◌, ◌-◌, ◌<◌, ◌≤◌, true, false, cond, List, [], ◌∷◌, ◌++◌, length, take, drop, Some, None, Ok, Err, sum_by, Option, Result, nat_lt}
+use Rattle.std.specs.Prelude.{◌≡◌, ℕ, ◌+◌, ◌-◌, ◌<◌, ◌≤◌, true, false, cond, List, [], ◌∷◌, ◌++◌, length, take, drop, Some, None, Ok, Err, Option, Result, nat_lt}
 use Rattle.std.specs.List.{flat_map, AllByRecursion}
 use Rattle.rows.specs.declared.entry.Entry.{Entry}
 use Rattle.stores.specs.Meaning.{Meaning, block}
 use Rattle.reading.specs.declared.fault.ReadFault.{ReadFault}
 use Rattle.reading.specs.Faults.{Fails}
-
--- the sum of the entries' lengths
-abbrev pub total : List Entry → ℕ
-total es = sum_by (λ e. e.len) es
 
 -- what stands at the place k of parts that have a size each: what `inside` gives at the place
 -- within the part

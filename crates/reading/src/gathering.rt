@@ -1,5 +1,5 @@
 // The frames of joined stretches, gathered into a buffer.
-ghost use Rattle.std.specs.Prelude.{◌≡◌, ◌+◌, ◌≤◌, length};
+ghost use Rattle.std.specs.Prelude.{◌+◌, ◌≤◌, length};
 ghost use Rattle.reading.specs.Faults.{Leaves};
 ghost use Rattle.reading.specs.Stretches.{extent, stretch, sequence, origin, Sound, AllSound, Misses, Gathers};
 ghost use Rattle.reading.specs.StretchesLemmas.{stretch_length};

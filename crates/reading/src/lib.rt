@@ -10,5 +10,5 @@ mod walking;
 
 pub use fault::ReadFault;
 pub use gathering::gather;
-pub use row::{read_row, row_len};
+pub use row::read_row;
 pub use stretch::Stretch;

@@ -1,9 +1,9 @@
-// Rows over a store: how long a row is, and its frames from a position on.
-ghost use Rattle.std.specs.Prelude.{◌≡◌, ◌+◌, ◌-◌, ◌^◌, ◌<◌, ◌≤◌, min, false, length};
+// Rows over a store: their frames from a position on.
+ghost use Rattle.std.specs.Prelude.{◌≡◌, ◌+◌, ◌^◌, ◌<◌, ◌≤◌, false, length};
 ghost use Rattle.std.proofs.Common.{sym};
 ghost use Rattle.stores.specs.Meaning.{block};
 ghost use Rattle.reading.specs.Faults.{Leaves, Fails};
-ghost use Rattle.reading.specs.Rows.{total, frames, Ties, Tied, RowReads};
+ghost use Rattle.reading.specs.Rows.{frames, Ties, Tied, RowReads};
 
 use crate::fault::ReadFault;
 use crate::part::Part;
@@ -32,17 +32,6 @@ impl<S: Store> Part<S> for Entry {
     }
 
     ghost sized = { λ m e ties. sym ties.1 };
-}
-
-// How many frames a row has, held at the largest `usize`.
-pub fn row_len(entries: &[Entry]) -> usize
-    ensures { result ≡ min (total entries.now) (2 ^ 64 - 1) }
-{
-    let mut sum: usize = 0;
-    for entry in entries {
-        sum = sum.saturating_add(entry.len);
-    }
-    sum
 }
 
 // Fills the buffer with the row's frames from `start` on, by one read for each block that has some

@@ -1,6 +1,6 @@
 use Rattle.std.proofs.Common.{◌≡◌, ◌+◌, ◌-◌, ◌^◌, min, Ok, Err, length, take, drop, ap, ◌∙◌, arith, rules}
 use Rattle.reading.proofs.Walk.{length_part, walk_skip, walk_read, walk_as}
-use Rattle.reading.proofs.Places.{split_at, all_around}
+use Rattle.reading.proofs.Places.{all_at}
 use Rattle.reading.proofs.Breaking.{breaks}
 use Rattle.reading.proofs.walking.walk.Goals as goal
 use Rattle.reading.proofs.walking.walk.Goals.{then-skip-len, else-skip-len+in_ok-map_err}
@@ -21,7 +21,7 @@ returns-in_err-map_err-clause-told g c =
     rw out
     (λ tied fits.
     let walk = inv.2 tied fits in
-    let ties = (all_around (p.tied m) xs _ x _ (split_at xs i x here c.part-item.is) tied).1 in
+    let ties = all_at (p.tied m) xs i x here c.part-item.is tied in
     let long = g.met.P.Part.sized m x ties in
     let k = c.loop-part.done + c.min-count.result - c.loop-part.done in
     let told = rw (inv.1, fell) at c.fill.ensures.told in
@@ -42,7 +42,7 @@ loop-part-preserved g c =
         ap g.S.Store.meaning w.store-is ∙ inv.1,
         λ tied fits.
             let walk = inv.2 tied fits in
-            let ties = (all_around (p.tied m) xs _ x _ (split_at xs i x here c.part-item.is) tied).1 in
+            let ties = all_at (p.tied m) xs i x here c.part-item.is tied in
             let long = g.met.P.Part.sized m x ties in (
               walk_as (p.frames m) (omega arith) w.done-is w.buffer-is (walk_skip (p.frames m) xs c.args.start c.args.buffer.now i c.loop-part.skip c.loop-part.done c.loop-part.buffer walk.0 x here c.part-item.is (omega arith) (omega arith)),
               λ some. walk.1 (omega arith),
@@ -56,7 +56,7 @@ loop-part-preserved g c =
             ap g.S.Store.meaning w.store-is ∙ store ∙ inv.1,
             λ tied fits.
                 let walk = inv.2 tied fits in
-                let ties = (all_around (p.tied m) xs _ x _ (split_at xs i x here c.part-item.is) tied).1 in
+                let ties = all_at (p.tied m) xs i x here c.part-item.is tied in
                 let long = g.met.P.Part.sized m x ties in
                 let r = told ties in
                 let n = w.min-count.result in

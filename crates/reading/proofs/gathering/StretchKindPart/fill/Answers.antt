@@ -1,6 +1,5 @@
-use Rattle.std.proofs.Common.{◌≡◌, ◌+◌, length, take, drop, ap, ◌∙◌, arith}
+use Rattle.std.proofs.Common.{length, arith}
 use Rattle.std.proofs.lemmas.Result.{err_from_is_err_and}
-use Rattle.reading.specs.Rows.{frames}
 use Rattle.reading.proofs.Reading.{stops_among}
 use Rattle.reading.proofs.Spans.{within}
 use Rattle.reading.proofs.gathering.StretchKindPart.fill.Goals as goal
@@ -16,9 +15,6 @@ returns-in_err-read_row-in-Row-clause-told g c =
 
 pub returns-in_ok-read_row-in-Row-clause-told : goal.returns-in_ok-read_row-in-Row-clause-told
 returns-in_ok-read_row-in-Row-clause-told g c = λ sound.
-    let m = g.S.Store.meaning c.args.store.now in
-    let n = length c.args.buffer.now in
-    let i = within m c.args.self.now c.in-Row.entries c.in-Row.span c.args.skip n c.in-Row.is sound c.requires.within in
-    let start : c.saturating_add.result ≡ c.in-Row.span.start + c.args.skip = omega (arith, i.small) in
-    let a = c.in_ok-read_row-in-Row.ensures.told i.tied (omega (arith, i.long)) (omega (arith, i.small)) in
-    (a.0 ∙ ap (λ z. take n (drop z (frames m c.in-Row.entries.now))) start ∙ i.same, a.1, tt)
+    let i = within (g.S.Store.meaning c.args.store.now) c.args.self.now c.in-Row.entries c.in-Row.span c.args.skip (length c.args.buffer.now) c.in-Row.is sound c.requires.within in
+    let read = c.in_ok-read_row-in-Row.ensures.told i.tied (omega (arith, i.long)) (omega (arith, i.small)) in
+    (rw (← i.same c.saturating_add.result (omega (arith, i.small))) read.0, read.1, tt)
