@@ -1,11 +1,12 @@
 -- What a store keeps as counts fall. Assumes nothing.
-use Rattle.std.proofs.Common.{◌≡◌, ℕ, ◌<◌, ◌≤◌, List, [], length, get_or, set, Ok, Err, Result, sym, refl, ap, ◌∙◌, subst, ⊎_elim, arith}
+use Rattle.std.proofs.Common.{◌≡◌, ℕ, ◌-◌, ◌<◌, ◌≤◌, List, [], length, get_or, set, Ok, Err, Result, sym, refl, ap, ◌∙◌, subst, ⊎_elim, arith}
 use Rattle.std.proofs.lemmas.List.{get_or_past, get_or-set_same, get_or-set_other, length-set, nil_from_length}
 use Rattle.std.proofs.lemmas.Bool.{cases_eq, cases_lt}
 use Rattle.std.proofs.lemmas.Bool.Decides.{nat_tests}
 use Rattle.stores.specs.declared.fault.StoreFault.{StoreFault}
 use Rattle.stores.specs.Meaning.{Meaning, capacity, block, holding}
 use Rattle.stores.specs.Promise.{Releases}
+use Rattle.pool.specs.Counts.{once}
 use Rattle.pool.specs.Freed.{Freed, left}
 
 module _ {F : Type 0} where
@@ -53,31 +54,33 @@ module _ {F : Type 0} where
   emptied m i (Ok u) m' h = subst (Emptied m i) (sym h.1) (holding_emptied m i)
   emptied m i (Err f) m' h = subst (Emptied m i) (sym h.2) (same_emptied m i h.0)
 
-  -- a count that falls, but not to 0, frees nothing
-  pub freed_none : (m : Meaning F) (xs : List ℕ) (i v : ℕ) → i < length xs → (v ≡ 0 → get_or xs i 0 ≡ 0) → Freed m xs m (set xs i v)
-  freed_none m xs i v l some = record {
+  -- one less at i, but not to 0, frees nothing
+  pub freed_none : (m : Meaning F) (xs ys : List ℕ) (i : ℕ) → ((n : ℕ) → get_or ys n 0 ≡ get_or xs n 0 - once n i) → 1 < get_or xs i 0 → Freed m xs m ys
+  freed_none m xs ys i less some = record {
     same_limit = refl;
     same_health = refl;
     same_capacity = refl;
-    blocks = λ n. sym (left_keeps (get_or xs n 0) (get_or (set xs i v) n 0) (block m n) (λ z.
-        ⊎_elim
-        (λ (e : n ≡ i). ap (λ k. get_or xs k 0) e ∙ some (sym (get_or-set_same xs i v 0 l) ∙ ap (λ k. get_or (set xs i v) k 0) (sym e) ∙ z))
-        (λ (k : n ≡ i → ⊥). sym (get_or-set_other xs i n v 0 k) ∙ z)
-        (cases_eq n i)));
+    blocks = λ n. sym (left_keeps (get_or xs n 0) (get_or ys n 0) (block m n) (some_left n));
   }
+    where
+      some_left : (n : ℕ) → get_or ys n 0 ≡ 0 → get_or xs n 0 ≡ 0
+      some_left n z = grind (arith, nat_tests, less n)
 
-  -- a count that falls to 0 frees its block
-  pub freed_one : (m m' : Meaning F) (xs : List ℕ) (i v : ℕ) → i < length xs → 0 < get_or xs i 0 → v ≡ 0 → Emptied m i m' → Freed m xs m' (set xs i v)
-  freed_one m m' xs i v l some zero e = record {
+  -- one less at i, to 0, frees its block
+  pub freed_one : (m m' : Meaning F) (xs ys : List ℕ) (i : ℕ) → ((n : ℕ) → get_or ys n 0 ≡ get_or xs n 0 - once n i) → get_or xs i 0 ≡ 1 → Emptied m i m' → Freed m xs m' ys
+  freed_one m m' xs ys i less one e = record {
     same_limit = e.same_limit;
     same_health = e.same_health;
     same_capacity = e.same_capacity;
     blocks = λ n.
         ⊎_elim
-        (λ (k : n ≡ i). rw k (e.gone ∙ sym (left_frees (get_or xs i 0) (get_or (set xs i v) i 0) (block m i) some (get_or-set_same xs i v 0 l ∙ zero))))
-        (λ (k : n ≡ i → ⊥). e.others n k ∙ sym (left_keeps (get_or xs n 0) (get_or (set xs i v) n 0) (block m n) (λ z. sym (get_or-set_other xs i n v 0 k) ∙ z)))
+        (λ (k : n ≡ i). rw k (e.gone ∙ sym (left_frees (get_or xs i 0) (get_or ys i 0) (block m i) (omega arith) none_left)))
+        (λ (k : n ≡ i → ⊥). e.others n k ∙ sym (left_keeps (get_or xs n 0) (get_or ys n 0) (block m n) (λ z. grind (arith, nat_tests, less n))))
         (cases_eq n i);
   }
+    where
+      none_left : get_or ys i 0 ≡ 0
+      none_left = grind (arith, nat_tests, less i)
 
 -- falls one after another
 pub freed_same : {F : Type 0} (m : Meaning F) (xs : List ℕ) → Freed m xs m xs

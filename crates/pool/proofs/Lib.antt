@@ -1,5 +1,6 @@
 pub mod Naming
 pub mod OneCount
+pub mod Accounts
 pub mod Falls
 pub mod Keeping
 pub mod Stays

@@ -26,11 +26,11 @@ module _ {F : Type 0} (m m' : Meaning F) (keeps : (n : ℕ) → 0 < length (bloc
   rows_stay es tied = (tied_stays es tied, frames_stay_lem es tied)
 
   stretch_stays : (s : Stretch F) → Sound m s → stretch m' s ≡ stretch m s
-  stretch_stays (Row es from to) sound = ap (λ z. take (to - from) (drop from z)) (frames_stay_lem es.now sound.0)
+  stretch_stays (Row es span) sound = ap (λ z. take (span.end - span.start) (drop span.start z)) (frames_stay_lem es.now sound.0)
   stretch_stays (Given fs) sound = refl
 
   sound_stays : (s : Stretch F) → Sound m s → Sound m' s
-  sound_stays (Row es from to) sound = (tied_stays es.now sound.0, sound.1, omega (arith, sound.2, ap length (frames_stay_lem es.now sound.0)), sound.3)
+  sound_stays (Row es span) sound = (tied_stays es.now sound.0, sound.1, omega (arith, sound.2, ap length (frames_stay_lem es.now sound.0)), sound.3)
   sound_stays (Given fs) sound = tt
 
   pub all_sound_stay : (ss : List (Stretch F)) → AllSound m ss → AllSound m' ss

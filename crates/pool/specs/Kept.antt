@@ -1,9 +1,12 @@
 -- The measures that are kept of blocks, by the measures of a frame.
 use Rattle.std.specs.Prelude.{◌≡◌, ℕ, ◌<◌, List, length, Ok, Err, Result, slice_index_or, slice_set}
+use Rattle.frames.specs.declared.frame.Frame as frame
 use Rattle.measures.specs.Measured.{measured}
-use Rattle.measures.specs.Summaries.{no_summary, joined_summary}
+use Rattle.measures.specs.Summaries.{no_summary, joined_summary, frame_summary}
 use Rattle.measures.specs.declared.summary.Summary.{Summary}
 use Rattle.stores.specs.Meaning.{Meaning, capacity, block}
+use Rattle.pool.specs.declared.pool.Pool.{Pool}
+use Rattle.pool.specs.Accounts.{kept_of}
 
 module _ {F : Type 0} (worth : F → Summary) where
   -- the measures of a list of frames
@@ -19,3 +22,12 @@ module _ {F : Type 0} (worth : F → Summary) where
   abbrev pub kept_after : {E : Type 0} → List Summary → List F → Result ℕ E → List Summary
   kept_after kept frames (Ok n) = slice_set kept n (summed frames)
   kept_after kept frames (Err _) = kept
+
+module _ {S F : Type 0} (kind : frame.Ghosts F) (meaning : S → Meaning F) where
+  -- what a pool keeps is right, by its store's meaning and the measures of a frame of that kind
+  abbrev pub KeptRight : Pool S → Type 0
+  KeptRight pool = Kept (frame_summary kind) (meaning pool.store) (kept_of pool)
+
+  -- where what a pool keeps was right before, it is right after
+  abbrev pub KeepsRight : Pool S → Pool S → Type 0
+  KeepsRight old new = KeptRight old → KeptRight new

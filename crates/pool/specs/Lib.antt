@@ -1,3 +1,4 @@
+pub mod Accounts
 pub mod Counts
 pub mod Freed
 pub mod Kept

@@ -1,11 +1,11 @@
 // New blocks: the frames of joined stretches, put part by part, or nothing put at all.
 ghost use Rattle.std.specs.Prelude.{◌≡◌, ◌<◌, [], length, vec_capacity};
 ghost use Rattle.std.specs.List.{AllByRecursion};
-ghost use Rattle.measures.specs.Summaries.{frame_summary};
 ghost use Rattle.stores.specs.Meaning.{capacity};
 ghost use Rattle.reading.specs.Rows.{RowsStay};
 ghost use Rattle.reading.specs.Stretches.{sequence, AllSound};
-ghost use Rattle.pool.specs.Kept.{Kept};
+ghost use Rattle.pool.specs.Accounts.{SameCounts};
+ghost use Rattle.pool.specs.Kept.{KeepsRight};
 ghost use Rattle.pool.specs.Blocks.{emptied, CutFits, CutsFit, Takes, PutsOne, Keeps, PutsAll};
 
 use crate::cut::Cut;
@@ -31,8 +31,8 @@ impl<S: Store> Pool<S> {
         ensures told { AllSound (S.Store.meaning self.old.store) stretches.now → CutsFit (length work.old) (length (sequence (S.Store.meaning self.old.store) stretches.now)) cuts.now → PutsAll (S.Store.meaning self.old.store) stretches.now cuts.now result numbers.new.items (S.Store.meaning self.new.store) }
         ensures rows { RowsStay (S.Store.meaning self.old.store) (S.Store.meaning self.new.store) }
         ensures work { length work.new ≡ length work.old }
-        ensures counts { self.new.counts ≡ self.old.counts }
-        ensures keeps { Kept (frame_summary S.Kind.Frame.least S.Kind.Frame.greatest S.Kind.Frame.narrow S.Kind.Frame.power S.Kind.Frame.clips) (S.Store.meaning self.old.store) self.old.kept.items → Kept (frame_summary S.Kind.Frame.least S.Kind.Frame.greatest S.Kind.Frame.narrow S.Kind.Frame.power S.Kind.Frame.clips) (S.Store.meaning self.new.store) self.new.kept.items }
+        ensures counts { SameCounts self.old self.new }
+        ensures keeps { KeepsRight S.Kind.Frame S.Store.meaning self.old self.new }
     {
         numbers.clear();
         numbers.reserve(cuts.len())?;
@@ -57,20 +57,21 @@ impl<S: Store> Pool<S> {
     ) -> Result<usize, StoreFault>
         ensures store { Takes (S.Store.meaning self.old.store) result (S.Store.meaning self.new.store) }
         ensures told { AllSound (S.Store.meaning self.old.store) stretches.now → CutFits (length work.old) (length (sequence (S.Store.meaning self.old.store) stretches.now)) cut → PutsOne (S.Store.meaning self.old.store) stretches.now cut result (S.Store.meaning self.new.store) }
-        ensures counts { self.new.counts ≡ self.old.counts }
-        ensures keeps { Kept (frame_summary S.Kind.Frame.least S.Kind.Frame.greatest S.Kind.Frame.narrow S.Kind.Frame.power S.Kind.Frame.clips) (S.Store.meaning self.old.store) self.old.kept.items → Kept (frame_summary S.Kind.Frame.least S.Kind.Frame.greatest S.Kind.Frame.narrow S.Kind.Frame.power S.Kind.Frame.clips) (S.Store.meaning self.new.store) self.new.kept.items }
+        ensures counts { SameCounts self.old self.new }
+        ensures keeps { KeepsRight S.Kind.Frame S.Store.meaning self.old self.new }
     {
         let count = cut.len.min(work.len());
-        gather(&mut self.store, stretches, cut.at, &mut work[0..count])?;
-        self.put(&work[0..count])
+        let part = &mut work[..count];
+        gather(&mut self.store, stretches, cut.at, part)?;
+        self.put(part)
     }
 
     // Releases every number that was put, the newest first.
     fn take_back(&mut self, numbers: &mut Vec<usize>)
         ensures store { (S.Store.meaning self.new.store) ≡ emptied (S.Store.meaning self.old.store) numbers.old.items }
         ensures numbers { numbers.new.items ≡ [] }
-        ensures counts { self.new.counts ≡ self.old.counts }
-        ensures keeps { Kept (frame_summary S.Kind.Frame.least S.Kind.Frame.greatest S.Kind.Frame.narrow S.Kind.Frame.power S.Kind.Frame.clips) (S.Store.meaning self.old.store) self.old.kept.items → Kept (frame_summary S.Kind.Frame.least S.Kind.Frame.greatest S.Kind.Frame.narrow S.Kind.Frame.power S.Kind.Frame.clips) (S.Store.meaning self.new.store) self.new.kept.items }
+        ensures counts { SameCounts self.old self.new }
+        ensures keeps { KeepsRight S.Kind.Frame S.Store.meaning self.old self.new }
     {
         while let Some(number) = numbers.pop() {
             let _ = self.store.release(number);

@@ -2,6 +2,7 @@
 // new blocks that are put all together or not at all.
 #![tactic(auto)]
 
+mod account;
 mod blocks;
 mod counting;
 mod cut;
@@ -12,6 +13,7 @@ mod starting;
 #[cfg(test)]
 mod tests;
 
+pub use account::Account;
 pub use cut::Cut;
 pub use fault::PutFault;
 pub use pool::Pool;

@@ -1,14 +1,10 @@
-// A store, how many entries name each of its numbers, and what is kept of each block.
-ghost use Rattle.std.specs.Prelude.{◌≡◌, vec_len};
+// A store, and an account of each of its numbers.
+use crate::account::Account;
 
-use measures::Summary;
-
+// That the measures are right is no fact of every pool: any store may be given to a pool, with blocks
+// that it knows nothing of, and changed behind its back. So each call says that they stay right.
 #[derive(Drop)]
 pub struct Pool<S> {
     pub store: S,
-    // for each number, how many entries name it
-    pub counts: Vec<u32>,
-    // for each number, the measures of its block, if it has one
-    pub kept: Vec<Summary>,
-    ghost paired: { vec_len counts ≡ vec_len kept },
+    pub accounts: Vec<Account>,
 }

@@ -1,9 +1,10 @@
-// A pool over a store, with a count and measures for each of its numbers.
+// A pool over a store, with an account for each of its numbers.
 ghost use Rattle.std.specs.Prelude.{◌≡◌, ℕ, [], replicate, MatchResult, OnOk};
-ghost use Rattle.measures.specs.Summaries.{no_summary, frame_summary};
 ghost use Rattle.stores.specs.Meaning.{capacity, block};
-ghost use Rattle.pool.specs.Kept.{Kept};
+ghost use Rattle.pool.specs.Accounts.{no_account};
+ghost use Rattle.pool.specs.Kept.{KeptRight};
 
+use crate::account::Account;
 use crate::pool::Pool;
 use frames::Frame;
 use measures::{Measure, Summary};
@@ -11,31 +12,28 @@ use std::alloc::{AllocError, Global};
 use stores::Store;
 
 impl<S: Store> Pool<S> {
-    // The store, with no counts yet.
+    // The store, with no accounts yet.
     pub fn new(heap: Global, store: S) -> Pool<S>
         ensures store { result.store ≡ store }
-        ensures counts { result.counts.items ≡ [] }
-        ensures kept { result.kept.items ≡ [] }
+        ensures accounts { result.accounts.items ≡ [] }
     {
         Pool {
             store,
-            counts: Vec::new(heap),
-            kept: Vec::new(heap),
+            accounts: Vec::new(heap),
         }
     }
 
-    // Counts for all numbers, each 0. Over a store without blocks, what is kept of blocks is right.
+    // Accounts for all numbers, each with a count of 0. Over a store without blocks, what is kept of blocks is right.
     pub fn start(&mut self, heap: Global) -> Result<(), AllocError>
         ensures store { self.new.store ≡ self.old.store }
-        ensures counts { MatchResult result (λ _. self.new.counts.items ≡ replicate (capacity (S.Store.meaning self.old.store)) 0) (λ _. self.new.counts ≡ self.old.counts) }
-        ensures kept { MatchResult result (λ _. self.new.kept.items ≡ replicate (capacity (S.Store.meaning self.old.store)) no_summary) (λ _. self.new.kept ≡ self.old.kept) }
-        ensures keeps { OnOk result (((n : ℕ) → block (S.Store.meaning self.old.store) n ≡ []) → Kept (frame_summary S.Kind.Frame.least S.Kind.Frame.greatest S.Kind.Frame.narrow S.Kind.Frame.power S.Kind.Frame.clips) (S.Store.meaning self.new.store) self.new.kept.items) }
+        ensures accounts { MatchResult result (λ _. self.new.accounts.items ≡ replicate (capacity (S.Store.meaning self.old.store)) no_account) (λ _. self.new.accounts ≡ self.old.accounts) }
+        ensures keeps { OnOk result (((n : ℕ) → block (S.Store.meaning self.old.store) n ≡ []) → KeptRight S.Kind.Frame S.Store.meaning self.new) }
     {
-        let count = self.store.capacity();
-        let counts = vec![in heap; 0u32; count]?;
-        let kept = vec![in heap; <Summary as Measure<S::Kind>>::none(); count]?;
-        self.counts = counts;
-        self.kept = kept;
+        let none = Account {
+            count: 0,
+            kept: <Summary as Measure<S::Kind>>::none(),
+        };
+        self.accounts = vec![in heap; none; self.store.capacity()]?;
         Ok(())
     }
 }
