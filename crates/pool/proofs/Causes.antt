@@ -1,40 +1,19 @@
 -- Why a block was not put. Assumes nothing.
 use Rattle.std.proofs.Common.{◌≡◌, ℕ, ◌+◌, ◌<◌, Bool, true, false, cond, ◌||◌, eqb, ltb, ◌⊎◌, List, length, Some, None, Ok, Err, Result, sym, refl, ap, ◌∙◌, subst, inl, inr, ⊎_elim, arith}
-use Rattle.std.specs.List.{ContainsAt}
+use Rattle.std.specs.List.{Contains}
 use Rattle.std.proofs.lemmas.Bool.{cases_Bool, cond-true, cond-false, or_cases, eqb-true, ltb-true}
 use Rattle.stores.specs.declared.fault.StoreError.TheVariants.{Ailing, BadLength, Full, Failed}
 use Rattle.stores.specs.declared.fault.StoreFault.{StoreFault}
 use Rattle.stores.specs.Faults.{fault}
 use Rattle.stores.specs.Meaning.{Meaning, vacant}
 use Rattle.stores.specs.Promise.{Tried, Puts}
-use Rattle.stores.proofs.Refusals.{put_passes}
 use Rattle.pool.specs.declared.cut.Cut.{Cut}
 use Rattle.reading.specs.declared.stretch.Stretch.{Stretch}
 use Rattle.reading.specs.Stretches.{sequence, source, Misses}
-use Rattle.pool.specs.Blocks.{cutout, Takes, PutsOne, About, Cause}
-use Rattle.reading.proofs.Tries.{put_after, no_ailing}
+use Rattle.pool.specs.Blocks.{cutout, PutsOne, About, Cause}
 
 module _ {F : Type 0} where
-  -- a put takes a free number or leaves the store as it was but for its health
-  pub put_takes : (frames : List F) (r : Result ℕ StoreFault) (m₁ m m' : Meaning F) → m₁ ≡ m → Puts m₁ frames r m' → Takes m r m'
-  put_takes frames r m₁ m m' same h = let P : Meaning F → Type 0 = λ z. Puts z frames r m' in by_result m frames r m' (subst P same h)
-    where
-      by_result : (m : Meaning F) (frames : List F) (r : Result ℕ StoreFault) (m' : Meaning F) → Puts m frames r m' → Takes m r m'
-      by_result m frames (Ok n) m' h = (frames, omega (arith, (put_passes m (length frames) h.0).0), h.1, h.2, h.3, no_ailing m _ h.0)
-      by_result m frames (Err f) m' h = put_after (length frames) f m m' h
-
-  -- a put of the frames of a cut
-  pub puts_one : (m₁ m : Meaning F) (ss : List (Stretch F)) (c : Cut) (frames : List F) (r : Result ℕ StoreFault) (m' : Meaning F) → m₁ ≡ m → frames ≡ cutout (sequence m ss) c → Puts m₁ frames r m' → PutsOne m ss c r m'
-  puts_one m₁ m ss c frames r m' same is h =
-      let P : Meaning F → Type 0 = λ z. Puts z frames r m' in
-      let Q : List F → Type 0 = λ z. Puts m z r m' in
-      by_result m ss c r m' (subst Q is (subst P same h))
-    where
-      by_result : (m : Meaning F) (ss : List (Stretch F)) (c : Cut) (r : Result ℕ StoreFault) (m' : Meaning F) → Puts m (cutout (sequence m ss) c) r m' → PutsOne m ss c r m'
-      by_result m ss c (Ok n) m' h = h
-      by_result m ss c (Err f) m' h = inr h
-
-  module _ (m : Meaning F) (ss : List (Stretch F)) (cuts : List Cut) (c : Cut) (has : ContainsAt cuts c) where
+  module _ (m : Meaning F) (ss : List (Stretch F)) (cuts : List Cut) (c : Cut) (has : Contains cuts c) where
     abbrev Causes : StoreFault → Type 0
     Causes f = Cause m ss cuts f.error f.block
 

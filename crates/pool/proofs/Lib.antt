@@ -1,5 +1,4 @@
-pub mod Naming
-pub mod OneCount
+pub mod Each
 pub mod Accounts
 pub mod Falls
 pub mod Keeping

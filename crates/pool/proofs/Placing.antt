@@ -2,7 +2,7 @@
 use Rattle.std.proofs.Common.{◌≡◌, ℕ, zero, suc, ◌+◌, ◌<◌, Bool, false, ◌≢◌, List, [], ◌∷◌, ◌++◌, length, get_or, set, Ok, Err, Result, sym, refl, ap, ◌∙◌, subst, arith}
 use Rattle.std.specs.List.{AllByRecursion}
 use Rattle.std.proofs.lemmas.List.{length-set, get_or-set_same, get_or-set_other, set-set, set-get_or, nil_from_length}
-use Rattle.std.proofs.ByRecursion.{All-weaker}
+use Rattle.pool.proofs.Each.{each_weaker}
 use Rattle.std.proofs.lemmas.Bool.Decides.{nat_tests}
 use Rattle.stores.specs.declared.fault.StoreError.{StoreError}
 use Rattle.stores.specs.declared.fault.StoreFault.{StoreFault}
@@ -26,7 +26,7 @@ module _ {F : Type 0} where
   placed_push bs (q ∷ ps) (k ∷ ns) bs' n p e some h free = (e.0, e.1, e.2, placed_push (set bs k q) ps ns bs' n p e.3 some h free)
 
   -- the last number is taken out first
-  pub cleared_push : (bs : List (List F)) (ns : List ℕ) (n : ℕ) → cleared bs (ns ++ n ∷ []) ≡ cleared (set bs n []) ns
+  cleared_push : (bs : List (List F)) (ns : List ℕ) (n : ℕ) → cleared bs (ns ++ n ∷ []) ≡ cleared (set bs n []) ns
   cleared_push bs [] n = refl
   cleared_push bs (k ∷ ns) n = ap (λ z. set z k []) (cleared_push bs ns n)
 
@@ -86,7 +86,7 @@ module _ {F : Type 0} where
       let P : ℕ → Type 0 = λ k. (k < length (set bs n p)) × (get_or (set bs n p) k [] ≡ []) in
       let Q : ℕ → Type 0 = λ k. (k < length bs) × (get_or bs k [] ≡ []) in
       let conv : (k : ℕ) → P k → Q k = λ k h. (omega (arith, h.0, length-set bs n p), sym (get_or-set_other bs n k p [] (λ same. other (set bs n p) n k some h.1 (sym same))) ∙ h.1) in
-      ((e.1, e.2), All-weaker P Q conv ns (placed_free (set bs n p) ps ns bs' e.3))
+      ((e.1, e.2), each_weaker P Q conv ns (placed_free (set bs n p) ps ns bs' e.3))
 
   -- the numbers differ from each number that was taken
   placed_apart : (bs ps : List (List F)) (ns : List ℕ) (bs' : List (List F)) → Placed bs ps ns bs' → (k : ℕ) → 0 < length (get_or bs k []) → AllByRecursion (λ n. n ≡ k → ⊥) ns
@@ -157,7 +157,7 @@ module _ {F : Type 0} where
     putting_below =
         let P : ℕ → Type 0 = λ n. (n < capacity m) × (block m n ≡ []) in
         let Q : ℕ → Type 0 = λ n. n < capacity m in
-        All-weaker P Q (λ n h. h.0) ns (placed_free m.blocks ps ns m₁.blocks w.placed)
+        each_weaker P Q (λ n h. h.0) ns (placed_free m.blocks ps ns m₁.blocks w.placed)
 
     pub stored : Stored m ps ns m₁
     stored = record {
@@ -173,8 +173,14 @@ module _ {F : Type 0} where
     }
 
   -- a release makes a number free, whatever it answers
-  pub released : {U : Type 0} (m : Meaning F) (n : ℕ) (r : Result U StoreFault) (m' : Meaning F) → Releases m n r m' → m' ≡ holding m n []
+  released : {U : Type 0} (m : Meaning F) (n : ℕ) (r : Result U StoreFault) (m' : Meaning F) → Releases m n r m' → m' ≡ holding m n []
   released m n (Ok u) m' h = h.1
   released m n (Err f) m' h =
       let at : List (List F) → Meaning F = λ bs. record { limit = m.limit; ailing = m.ailing; blocks = bs } in
       h.2 ∙ ap at (sym (set_free m.blocks n (nil_from_length (get_or m.blocks n []) h.0)))
+
+  -- the last number of several is released before the others
+  pub released_last : {U : Type 0} (m : Meaning F) (all ns : List ℕ) (n : ℕ) (r : Result U StoreFault) (m' : Meaning F) → all ≡ ns ++ n ∷ [] → Releases m n r m' → emptied m' ns ≡ emptied m all
+  released_last m all ns n r m' is h =
+      let at : List (List F) → Meaning F = λ bs. record { limit = m.limit; ailing = m.ailing; blocks = bs } in
+      ap (λ z. emptied z ns) (released m n r m' h) ∙ ap at (sym (cleared_push m.blocks ns n)) ∙ ap (emptied m) (sym is)

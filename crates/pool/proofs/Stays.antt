@@ -1,6 +1,6 @@
 -- A store that keeps the blocks of another keeps what stands on them: rows, stretches and their frames. Assumes nothing.
 use Rattle.std.proofs.Common.{◌≡◌, ℕ, ◌-◌, ◌<◌, List, [], ◌∷◌, ◌++◌, length, take, drop, sym, refl, ap, ◌∙◌, arith}
-use Rattle.std.proofs.ByRecursion.{All-weaker}
+use Rattle.pool.proofs.Each.{each_weaker}
 use Rattle.rows.specs.declared.entry.Entry.{Entry}
 use Rattle.stores.specs.Meaning.{Meaning, block}
 use Rattle.reading.specs.declared.stretch.Stretch.{Stretch}
@@ -16,7 +16,7 @@ module _ {F : Type 0} (m m' : Meaning F) (keeps : (n : ℕ) → 0 < length (bloc
   ties_stay e ties = (ties.0, ties.1 ∙ ap length (sym (block_stays e ties)))
 
   tied_stays : (es : List Entry) → Tied m es → Tied m' es
-  tied_stays = All-weaker (Ties m) (Ties m') ties_stay
+  tied_stays = each_weaker (Ties m) (Ties m') ties_stay
 
   frames_stay_lem : (es : List Entry) → Tied m es → frames m' es ≡ frames m es
   frames_stay_lem [] tied = refl
@@ -34,7 +34,7 @@ module _ {F : Type 0} (m m' : Meaning F) (keeps : (n : ℕ) → 0 < length (bloc
   sound_stays (Given fs) sound = tt
 
   pub all_sound_stay : (ss : List (Stretch F)) → AllSound m ss → AllSound m' ss
-  all_sound_stay = All-weaker (Sound m) (Sound m') sound_stays
+  all_sound_stay = each_weaker (Sound m) (Sound m') sound_stays
 
   pub sequence_stays : (ss : List (Stretch F)) → AllSound m ss → sequence m' ss ≡ sequence m ss
   sequence_stays [] sound = refl

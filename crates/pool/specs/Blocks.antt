@@ -1,6 +1,6 @@
 -- What putting several new blocks does to a store. Assumes nothing.
 use Rattle.std.specs.Prelude.{◌≡◌, ℕ, ◌+◌, ◌<◌, ◌≤◌, true, false, ◌⊎◌, List, [], ◌∷◌, map, length, take, drop, Some, None, Ok, Err, Option, Result, ◌≢◌, slice_set}
-use Rattle.std.specs.List.{ContainsAt, AllByRecursion}
+use Rattle.std.specs.List.{AllByRecursion, Contains}
 use Rattle.stores.specs.declared.fault.StoreError.{StoreError}
 use Rattle.stores.specs.declared.fault.StoreError.TheVariants.{Ailing, NoBlock, BeyondBlock, BadLength, Full, Failed}
 use Rattle.stores.specs.declared.fault.StoreFault.{StoreFault}
@@ -81,14 +81,14 @@ module _ {F : Type 0} where
   -- the block that a fault is about: one with frames in a new block, or none at a put
   abbrev pub About : List (Stretch F) → List Cut → Option ℕ → Type 0
   About ss cuts None = 0 < length cuts
-  About ss cuts (Some b) = (c : Cut) × ContainsAt cuts c × Among (source ss) c.at c.len b
+  About ss cuts (Some b) = (c : Cut) × Contains cuts c × Among (source ss) c.at c.len b
 
   -- What an error tells of the store before, and of the block that the fault is about.
   abbrev pub Cause : Meaning F → List (Stretch F) → List Cut → StoreError → Option ℕ → Type 0
   Cause m ss cuts Ailing b = (m.ailing ≡ true) × About ss cuts b
   Cause m ss cuts NoBlock b = ⊥
   Cause m ss cuts BeyondBlock b = ⊥
-  Cause m ss cuts BadLength b = (m.ailing ≡ false) × (b ≡ None) × ((c : Cut) × ContainsAt cuts c × ((c.len ≡ 0) ⊎ (m.limit < c.len)))
+  Cause m ss cuts BadLength b = (m.ailing ≡ false) × (b ≡ None) × ((c : Cut) × Contains cuts c × ((c.len ≡ 0) ⊎ (m.limit < c.len)))
   Cause m ss cuts Full b = (m.ailing ≡ false) × (b ≡ None) × (vacant m.blocks < length cuts)
   Cause m ss cuts Failed b = (m.ailing ≡ false) × About ss cuts b
 

@@ -18,7 +18,8 @@ use stores::{Store, StoreFault};
 impl<S: Store> Pool<S> {
     // Puts a block for each cut of the joined stretches, from left to right, and leaves their numbers
     // in `numbers`; where the memory for these is wanting, or the store refuses or fails, none is put.
-    // The frames pass through the work buffer: what it holds afterwards is not said.
+    // The frames pass through the work buffer, so that no memory is asked for them: what it holds
+    // afterwards is not said.
     pub fn put_blocks(
         &mut self,
         stretches: &[Stretch<'_, S::Kind>],
@@ -37,6 +38,7 @@ impl<S: Store> Pool<S> {
         numbers.clear();
         numbers.reserve(cuts.len())?;
         for cut in cuts {
+            // A match: what was put is taken back before the fault is told, which `?` alone does not do.
             match self.put_part(stretches, *cut, work) {
                 Ok(number) => numbers.push_reserved(number),
                 Err(fault) => {

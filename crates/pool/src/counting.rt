@@ -15,9 +15,7 @@ impl<S: Store> Pool<S> {
     pub fn count(&self, number: usize) -> u32
         ensures { result ≡ slice_index (counts_of self.now) number }
     {
-        self.accounts
-            .get(number)
-            .map_or(0, |account| account.count)
+        self.accounts.get(number).map_or(0, |account| account.count)
     }
 
     // The entries name their blocks once more. Counts are exact below 2 ^ 32; an entry of no number is passed over.

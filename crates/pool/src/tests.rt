@@ -37,49 +37,46 @@ fn take(heap: Global) -> Result<Vec<Mono>, Fail> {
     Ok(frames)
 }
 
-// Puts the frames as the blocks of the row, by a work buffer of as many frames.
+// Puts a block for each cut of the stretches, by a work buffer like `room`.
+fn puts<S: Store>(
+    heap: Global,
+    pool: &mut Pool<S>,
+    stretches: &[Stretch<'_, S::Kind>],
+    cuts: &[Cut],
+    room: &[S::Kind],
+) -> Result<bool, AllocError> {
+    let mut work = Vec::from_slice(heap, room)?;
+    let mut numbers = Vec::new(heap);
+    let put = pool.put_blocks(stretches, cuts, work.as_mut_slice(), &mut numbers);
+    Ok(put.is_ok())
+}
+
+// Puts the frames as the blocks of the row.
 fn put_row<S: Store>(
     heap: Global,
     pool: &mut Pool<S>,
     frames: &[S::Kind],
 ) -> Result<bool, AllocError> {
-    let mut stretches = Vec::new(heap);
-    stretches.push(Stretch::Given(frames))?;
-    let mut work = Vec::from_slice(heap, frames)?;
-    let mut numbers = Vec::new(heap);
-    let put = pool.put_blocks(
-        stretches.as_slice(),
-        &CUTS,
-        work.as_mut_slice(),
-        &mut numbers,
-    );
-    Ok(put.is_ok())
+    puts(heap, pool, &[Stretch::Given(frames)], &CUTS, frames)
 }
 
-// Puts one block of the first four frames of the row and its last four, by a work buffer like `room`.
+// Puts one block of the first four frames of the row and its last four.
 fn put_ends<S: Store>(
     heap: Global,
     pool: &mut Pool<S>,
     room: &[S::Kind],
 ) -> Result<bool, AllocError> {
-    let mut stretches = Vec::new(heap);
-    for (from, to) in [(0, 4), (14, 18)] {
-        stretches.push(Stretch::Row {
+    let ends = [
+        Stretch::Row {
             entries: &ROW,
-            from,
-            to,
-        })?;
-    }
-    let mut work = Vec::from_slice(heap, room)?;
-    let mut numbers = Vec::new(heap);
-    let cut = [Cut { at: 0, len: 8 }];
-    let put = pool.put_blocks(
-        stretches.as_slice(),
-        &cut,
-        work.as_mut_slice(),
-        &mut numbers,
-    );
-    Ok(put.is_ok())
+            span: 0..4,
+        },
+        Stretch::Row {
+            entries: &ROW,
+            span: 14..18,
+        },
+    ];
+    puts(heap, pool, &ends, &[Cut { at: 0, len: 8 }], room)
 }
 
 #[test]

@@ -1,9 +1,6 @@
-use Rattle.std.proofs.Common.{◌≡◌, ℕ, ◌<◌, List, [], refl, map, length, vec_items, sym, ap, ◌∙◌, subst, arith, take_all}
-use Rattle.std.specs.List.{AllByRecursion}
-use Rattle.stores.specs.Meaning.{capacity, block}
-use Rattle.reading.specs.Faults.{after}
+use Rattle.std.proofs.Common.{◌≡◌, ℕ, List, [], refl, map, length, vec_items, sym, ap, ◌∙◌, subst, arith, take_all}
+use Rattle.stores.specs.Meaning.{block}
 use Rattle.reading.specs.Stretches.{sequence}
-use Rattle.pool.specs.declared.cut.Cut.{Cut}
 use Rattle.pool.specs.Blocks.{cutout, Stored}
 use Rattle.pool.proofs.Placing.{Putting, putting_none, putting_back, putting_keeps, putting_below, stored}
 use Rattle.pool.proofs.Stays.{rows_stay}
@@ -23,32 +20,13 @@ loop-cut-init g c =
       keeps = λ before. before;
     }
 
-pub returns-in-Err : goal.returns-in-Err
-returns-in-Err g c =
-    let m = g.S.Store.meaning c.args.self.now.store in
-    let inv = c.loop-cut.invariant in
-    let none : Cut = record { at = 0; len = 0 } in
-    let Below : List ℕ → Type 0 = AllByRecursion (λ n. n < capacity m) in
-    let told = c.in-Err.ensures in
-    let back = c.take_back.ensures in
-    let undone : g.S.Store.meaning c.take_back.new.self.store ≡ after m c.in-Err.fault.error = putting_back inv.parts.2 c.in-Err.fault.error _ _ told.store back.store in
-    record {
-      below = subst Below (sym back.numbers) tt;
-      store = (back.numbers, undone);
-      rows = rows_stay m (g.S.Store.meaning c.take_back.new.self.store) (λ n _. ap (λ z. block z n) undone);
-      told = stopped m _ c.args.stretches.now c.args.cuts.now none c.loop-cut.cut-index (length c.args.work.now) c.loop-cut-test.true inv.parts.0 _ inv.parts.1 inv.parts.2 c.in-Err.fault _ (λ s f. told.told s (omega (arith, f.0), f.1));
-      work = omega arith;
-      counts = (back.counts.0 ∙ told.counts.0 ∙ inv.counts.0, back.counts.1 ∙ told.counts.1 ∙ inv.counts.1);
-      keeps = λ before. back.keeps (told.keeps (inv.keeps before));
-    }
-
 pub loop-cut-preserved : goal.loop-cut-preserved
 loop-cut-preserved g c =
     let m = g.S.Store.meaning c.args.self.now.store in
     let inv = c.loop-cut.invariant in
-    let none : Cut = record { at = 0; len = 0 } in
+    let parts = inv.parts in
     let told = c.in-Ok.ensures in
-    let next = more m _ c.args.stretches.now c.args.cuts.now none c.loop-cut.cut-index (length c.args.work.now) c.loop-cut-test.true inv.parts.0 _ inv.parts.1 inv.parts.2 c.in-Ok.number _ inv.parts.3 told.store (λ s f. told.told s (omega (arith, f.0), f.1)) in
+    let next = more m _ c.args.stretches.now c.args.cuts.now c.loop-cut.cut-index (length c.args.work.now) c.loop-cut-test.true parts.0 _ parts.1 parts.2 c.in-Ok.number _ parts.3 told.store (λ s f. told.told s (omega (arith, f.0), f.1)) in
     let P : List ℕ → Type 0 = λ z. Putting m next.parts z (g.S.Store.meaning c.put_part.new.self.store) in
     record {
       len = omega arith;
@@ -58,19 +36,37 @@ loop-cut-preserved g c =
       keeps = λ before. told.keeps (inv.keeps before);
     }
 
-pub returns : goal.returns
-returns g c =
+pub returns-in-Err-clause-store : goal.returns-in-Err-clause-store
+returns-in-Err-clause-store g c =
+    (c.take_back.ensures.numbers, putting_back c.loop-cut.invariant.parts.2 c.in-Err.fault.error _ _ c.in-Err.ensures.store c.take_back.ensures.store)
+
+pub returns-in-Err-clause-rows : goal.returns-in-Err-clause-rows
+returns-in-Err-clause-rows g c =
+    let undone = putting_back c.loop-cut.invariant.parts.2 c.in-Err.fault.error _ _ c.in-Err.ensures.store c.take_back.ensures.store in
+    rows_stay (g.S.Store.meaning c.args.self.now.store) (g.S.Store.meaning c.take_back.new.self.store) (λ n _. ap (λ z. block z n) undone)
+
+pub returns-in-Err-clause-told : goal.returns-in-Err-clause-told
+returns-in-Err-clause-told g c =
+    let parts = c.loop-cut.invariant.parts in
+    stopped (g.S.Store.meaning c.args.self.now.store) _ c.args.stretches.now c.args.cuts.now c.loop-cut.cut-index (length c.args.work.now) c.loop-cut-test.true parts.0 _ parts.1 parts.2 c.in-Err.fault _ (λ s f. c.in-Err.ensures.told s (omega (arith, f.0), f.1))
+
+pub returns-clause-below : goal.returns-clause-below
+returns-clause-below g c = putting_below c.loop-cut.invariant.parts.2
+
+pub returns-clause-store : goal.returns-clause-store
+returns-clause-store g c =
+    let parts = c.loop-cut.invariant.parts in
+    (parts.0, omega (arith, parts.1), stored parts.2)
+
+pub returns-clause-rows : goal.returns-clause-rows
+returns-clause-rows g c =
+    rows_stay (g.S.Store.meaning c.args.self.now.store) (g.S.Store.meaning c.loop-cut.self.store) (putting_keeps c.loop-cut.invariant.parts.2)
+
+pub returns-clause-told : goal.returns-clause-told
+returns-clause-told g c =
     let m = g.S.Store.meaning c.args.self.now.store in
     let cuts = c.args.cuts.now in
-    let inv = c.loop-cut.invariant in
-    let seq = sequence m c.args.stretches.now in
+    let parts = c.loop-cut.invariant.parts in
+    let cut = cutout (sequence m c.args.stretches.now) in
     let P : List (List g.row.S-Kind.Denot) → Type 0 = λ z. Stored m z (vec_items c.loop-cut.numbers) (g.S.Store.meaning c.loop-cut.self.store) in
-    record {
-      below = putting_below inv.parts.2;
-      store = (inv.parts.0, omega (arith, inv.parts.1), stored inv.parts.2);
-      rows = rows_stay m (g.S.Store.meaning c.loop-cut.self.store) (putting_keeps inv.parts.2);
-      told = λ sound fits. subst P (inv.parts.3 sound fits ∙ ap (map (cutout seq)) (take_all _ cuts c.loop-cut-test.false)) (stored inv.parts.2);
-      work = omega arith;
-      counts = inv.counts;
-      keeps = inv.keeps;
-    }
+    λ sound fits. subst P (parts.3 sound fits ∙ ap (map cut) (take_all _ cuts c.loop-cut-test.false)) (stored parts.2)

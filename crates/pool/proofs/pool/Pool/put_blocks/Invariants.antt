@@ -14,7 +14,7 @@ invariant-loop-cut g l =
       len : vec_len l.numbers ≡ l.cut-index;
       room : length l.cuts ≤ vec_capacity l.numbers;
       parts : (ps : List (List g.row.S-Kind.Denot)) × (length ps ≡ l.cut-index) × Putting m ps (vec_items l.numbers) m'
-        × (AllSound m l.stretches → CutsFit (length l.initial.work) (length (sequence m l.stretches)) l.cuts → ps ≡ map (cutout (sequence m l.stretches)) (take l.cut-index l.cuts));
+          × (AllSound m l.stretches → CutsFit (length l.initial.work) (length (sequence m l.stretches)) l.cuts → ps ≡ map (cutout (sequence m l.stretches)) (take l.cut-index l.cuts));
       counts : SameCounts l.initial.self l.self;
       keeps : KeepsRight g.S.Kind.Frame g.S.Store.meaning l.initial.self l.self;
     }

@@ -1,14 +1,11 @@
-use Rattle.std.proofs.Common.{vec_items, refl, rules}
+use Rattle.std.proofs.Common.{vec_items, refl}
 use Rattle.pool.proofs.Accounts.{kept_stay, raised}
 use Rattle.pool.proofs.pool.Pool.raise.Goals as goal
 
-pub returns-in-Some : goal.returns-in-Some
-returns-in-Some g c =
-    let accounts = vec_items c.args.self.now.accounts in
-    let item = c.in-Some.ensures.item.3 in
-    record {
-      store = refl;
-      kept = (kept_stay accounts c.args.number c.in-Some.account.now item.1 c.saturating_add-account.result, refl);
-      len = refl;
-      counts = λ n _ fits. rw c.saturating_add-account.ensures (raised accounts c.args.number c.in-Some.account.now item.1 item.0 n fits);
-    }
+pub returns-in-Some-clause-kept : goal.returns-in-Some-clause-kept
+returns-in-Some-clause-kept g c =
+    (kept_stay (vec_items c.args.self.now.accounts) c.args.number c.in-Some.account.now c.in-Some.ensures.item.3 c.saturating_add-account.result, refl)
+
+pub returns-in-Some-clause-counts : goal.returns-in-Some-clause-counts
+returns-in-Some-clause-counts g c =
+    λ n _ fits. rw c.saturating_add-account.ensures (raised (vec_items c.args.self.now.accounts) c.args.number c.in-Some.account.now c.in-Some.ensures.item.3 n fits)
