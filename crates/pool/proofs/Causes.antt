@@ -1,12 +1,12 @@
 -- Why a block was not put. Assumes nothing.
-use Rattle.std.proofs.Common.{◌≡◌, ℕ, ◌+◌, ◌<◌, Bool, true, false, cond, ◌||◌, eqb, ltb, ◌⊎◌, List, length, Some, None, Ok, Err, Result, sym, refl, ap, ◌∙◌, subst, inl, inr, ⊎_elim, arith}
+use Rattle.std.proofs.Common.{◌≡◌, ℕ, ◌+◌, ◌<◌, Bool, true, false, cond, ◌||◌, eqb, ltb, ◌⊎◌, List, length, Some, None, Err, sym, refl, ap, ◌∙◌, subst, inl, inr, ⊎_elim, arith}
 use Rattle.std.specs.List.{Contains}
 use Rattle.std.proofs.lemmas.Bool.{cases_Bool, cond-true, cond-false, or_cases, eqb-true, ltb-true}
 use Rattle.stores.specs.declared.fault.StoreError.TheVariants.{Ailing, BadLength, Full, Failed}
 use Rattle.stores.specs.declared.fault.StoreFault.{StoreFault}
 use Rattle.stores.specs.Faults.{fault}
 use Rattle.stores.specs.Meaning.{Meaning, vacant}
-use Rattle.stores.specs.Promise.{Tried, Puts}
+use Rattle.stores.specs.Promise.{Tried}
 use Rattle.pool.specs.declared.cut.Cut.{Cut}
 use Rattle.reading.specs.declared.stretch.Stretch.{Stretch}
 use Rattle.reading.specs.Stretches.{sequence, source, Misses}
