@@ -1,32 +1,48 @@
 // The lines of a text, one after the other.
-ghost use Rattle.std.specs.Prelude.{◌≡◌, ◌<◌, [], ◌∷◌, length, IfSome, MatchOption};
-ghost use Rattle.takes.specs.Lines.{lines, first_line};
+ghost use Rattle.std.specs.Prelude.{◌≡◌, ◌≤◌, length};
+ghost use Rattle.std.specs.Iterator.{YieldsFirstRef, at_most};
+ghost use Rattle.takes.specs.Lines.{first_line, lines_left};
 
 const LINE_FEED: u8 = 10;
 
 // Where the first line of a text ends: at its first line feed, or at the text's end.
 fn line_end(text: &[u8]) -> usize
-    ensures { result ≡ length (first_line text.now) }
+    ensures end { result ≡ length (first_line text.now) }
+    ensures within { result ≤ length text.now }
 {
-    for (at, byte) in text.iter().enumerate() {
-        if *byte == LINE_FEED {
-            return at;
-        }
-    }
-    text.len()
+    text.iter()
+        .position(|byte| *byte == LINE_FEED)
+        .unwrap_or(text.len())
 }
 
-// The first line and the text behind it, or `None` where nothing is left.
-pub(crate) fn next_line(text: &[u8]) -> Option<(&[u8], &[u8])>
-    ensures lines { MatchOption result (lines text.now ≡ []) (λ p. lines text.now ≡ p.0.now ∷ lines p.1.now) }
-    ensures shorter { IfSome result (λ p. length p.1.now < length text.now) }
-{
-    if text.is_empty() {
-        return None;
+// What is left of a text as its lines are taken, from the front on.
+#[derive(Drop)]
+pub(crate) struct Lines<'a> {
+    rest: &'a [u8],
+}
+
+impl<'a> Lines<'a> {
+    pub(crate) fn of(text: &'a [u8]) -> Lines<'a>
+        ensures { result.rest.now ≡ text.now }
+    {
+        Lines { rest: text }
     }
-    let end = line_end(text);
-    if end >= text.len() {
-        return Some((text, &text[0..0]));
+}
+
+impl<'a> Iterator for Lines<'a> {
+    type Item = &'a [u8];
+
+    ghost next_gives = { YieldsFirstRef lines_left };
+
+    ghost remaining = { λ s. at_most (length s.rest.now) };
+
+    fn next(&mut self) -> Option<&'a [u8]> {
+        let text = self.rest;
+        if text.is_empty() {
+            return None;
+        }
+        let end = line_end(text);
+        self.rest = text.get(end + 1..).unwrap_or(&[]);
+        Some(&text[..end])
     }
-    Some((&text[0..end], &text[end + 1..text.len()]))
 }

@@ -3,7 +3,7 @@ ghost use Rattle.std.specs.Prelude.{◌≡◌, ◌<◌, length, IfOk, OnErr};
 ghost use Rattle.takes.specs.Lines.{lines};
 ghost use Rattle.takes.specs.Frames.{frames_in, unread_in};
 
-use crate::lines::next_line;
+use crate::lines::Lines;
 use crate::take::Take;
 use frames::Frame;
 use std::alloc::{AllocError, Global};
@@ -16,15 +16,11 @@ pub fn read_take<K: Frame>(heap: Global, text: &[u8]) -> Result<Take<K>, AllocEr
 {
     let mut frames = Vec::new(heap);
     let mut unread = Vec::new(heap);
-    let mut number = 1;
-    let mut rest = text;
-    while let Some((line, behind)) = next_line(rest) {
+    for (at, line) in Lines::of(text).enumerate() {
         match K::read_line(line) {
             Some(frame) => frames.push(frame)?,
-            None => unread.push(number)?,
+            None => unread.push(at + 1)?,
         }
-        number += 1;
-        rest = behind;
     }
     Ok(Take { frames, unread })
 }

@@ -1,18 +1,11 @@
-use Rattle.std.proofs.Common.{length, ap, arith}
-use Rattle.std.proofs.lemmas.List.{drop_all}
-use Rattle.takes.specs.Lines.{first_line}
-use Rattle.takes.proofs.FirstLine.{ends_here, goes_on}
+use Rattle.std.proofs.Common.{rules, tests, ◌∙◌, eqb}
+use Rattle.std.proofs.lemmas.Iterator.{YieldsList-from_slice}
+use Rattle.std.proofs.lemmas.Iterator.Search.{position_from_yields_List}
+use Rattle.takes.proofs.FirstLine.{end_is_found}
 use Rattle.takes.proofs.lines.line_end.Goals as goal
 
-pub returns-then-byte-eq-LINE_FEED : goal.returns-then-byte-eq-LINE_FEED
-returns-then-byte-eq-LINE_FEED c =
-    omega (arith, c.loop-at.invariant, ends_here c.args.text.now c.loop-at.at c.loop-at-test.true c.if-byte-eq-LINE_FEED.true)
-
-pub loop-at-preserved : goal.loop-at-preserved
-loop-at-preserved c =
-    (omega arith, omega (arith, c.loop-at.invariant, goes_on c.args.text.now c.loop-at.at c.loop-at-test.true c.if-byte-eq-LINE_FEED.false))
-
-pub returns : goal.returns
-returns c =
+pub returns-clause-end : goal.returns-clause-end
+returns-clause-end c =
     let text = c.args.text.now in
-    omega (arith, c.loop-at.invariant, c.loop-at-test.false, ap (λ rest. length (first_line rest)) (drop_all c.loop-at.at text c.loop-at-test.false))
+    let found = position_from_yields_List (λ b. eqb b 10) _ _ c.position.result c.position.ensures.ran (YieldsList-from_slice text (cc)) (λ x b q k. search (rules, tests)) in
+    c.unwrap_or.ensures ∙ end_is_found text c.position.result found
