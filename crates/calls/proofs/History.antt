@@ -1,6 +1,8 @@
 -- The history law: after every list of calls the editor shows what the plain-list editor gives. Assumes nothing.
 use Rattle.std.proofs.Common.{◌≡◌, ℕ, zero, suc, ◌+◌, ◌-◌, ◌<◌, ◌≤◌, Bool, true, false, List, [], ◌∷◌, ◌++◌, length, get_or, take, drop, Some, None, Option, unwrap_or, sym, refl, ap, ◌∙◌, subst, arith}
 use Rattle.std.specs.Option.{option_map}
+use Rattle.std.proofs.lemmas.Bool.{false≢true}
+use Rattle.std.proofs.lemmas.Option.{none-some, same_Some}
 use Rattle.std.proofs.lemmas.List.{length-take-le, length-drop, length_push, get_or_push, get_or_append_left, get_or-take, get_or-drop}
 use Rattle.calls.specs.Plain as plain
 use Rattle.calls.specs.Plain.{Rows, empty, Step, apply, Edit, edited, onward, stood, Plain, Event, Call, start, begin, step, keep, withdraw, undo, redo, forget, rearm, read, unstarted, kept, undone, redone, did, told, advance, fed, with_editing}
@@ -97,18 +99,9 @@ module _ {F : Type 0} (ss : List (Rows F)) (at m : ℕ) (e : Edit F) (st wt : Li
     ahead = λ i h. place ss (at + i) (m + suc i) (omega arith) ∙ l.ahead (suc i) (omega arith);
   }
 
-never : {A : Type 0} {F : Type 0} (d : Rows F) → ◌≡◌ {A = Option (Rows F)} (Some d) None → A
-never d e = let z : ◌≡◌ {A = ℕ} 0 1 = cc in absurd (omega arith)
-
-not_both : {A : Type 0} (b : Bool) → b ≡ false → b ≡ true → A
-not_both b p q = let z : ◌≡◌ {A = ℕ} 0 1 = cc in absurd (omega arith)
-
-some_same : {F : Type 0} (a b : Rows F) → ◌≡◌ {A = Option (Rows F)} (Some a) (Some b) → a ≡ b
-some_same a b e = cc
-
 none_stays : {F : Type 0} (o : Option (Edit F)) (f g : Edit F → Rows F) → option_map f o ≡ None → ◌≡◌ {A = Option (Rows F)} None (option_map g o)
 none_stays None f g e = refl
-none_stays (Some x) f g e = never (f x) e
+none_stays (Some x) f g e = absurd (none-some (f x) (sym e))
 
 -- What lasts from call to call.
 pub record Paired {F : Type 0} (p : Plain F) (v : View F) : Type 0 where
@@ -122,15 +115,15 @@ pub record Inv {F : Type 0} (p : Plain F) (v : View F) : Type 0 where
   pub paired : v.started ≡ true → Paired p v
 
 did_keep : {F : Type 0} (p : Plain F) (v : View F) (d : Rows F) (w : View F) (o : Option (Edit F)) → Some d ≡ option_map (λ e. edited e (plain.current p)) o → Inv p v → Paired p v → Keeps v d w → Inv (kept p o) w
-did_keep p v d w None is h q k = never d is
+did_keep p v d w None is h q k = absurd (none-some d (sym is))
 did_keep p v d w (Some e) is h q (room r) =
-    let l = lined_keep v.states v.at p.standing p.waiting q.lined e d (some_same _ _ is) in
+    let l = lined_keep v.states v.at p.standing p.waiting q.lined e d (same_Some _ _ is) in
     record {
       started = h.started;
       paired = λ _. record { lined = l; few = omega (arith, l.long, q.pasts); pasts = omega (arith, q.pasts); draft = refl };
     }
 did_keep p v d w (Some e) is h q (full r) =
-    let l = lined_keep v.states v.at p.standing p.waiting q.lined e d (some_same _ _ is) in
+    let l = lined_keep v.states v.at p.standing p.waiting q.lined e d (same_Some _ _ is) in
     let m = lined_forget (pushed v d) (v.at + 1) (e ∷ p.standing) [] l v.at refl in
     record {
       started = h.started;
@@ -138,8 +131,8 @@ did_keep p v d w (Some e) is h q (full r) =
     }
 
 did_step : {F : Type 0} (p : Plain F) (x : Step F) (d : Rows F) (o : Option (Edit F)) → Some d ≡ option_map (λ e. edited e (plain.current p)) o → ◌≡◌ {A = Option (Rows F)} (Some (apply x d)) (option_map (λ e. edited e (plain.current p)) (option_map (λ e. e ++ (x ∷ [])) o))
-did_step p x d None is = never d is
-did_step p x d (Some e) is = ap (λ r. Some (apply x r)) (some_same _ _ is) ∙ ap Some (sym (edited_push e x (plain.current p)))
+did_step p x d None is = absurd (none-some d (sym is))
+did_step p x d (Some e) is = ap (λ r. Some (apply x r)) (same_Some _ _ is) ∙ ap Some (sym (edited_push e x (plain.current p)))
 
 did_undo : {F : Type 0} (p : Plain F) (v : View F) (st : List (Edit F)) → p.standing ≡ st → v.draft ≡ None → 0 < v.at → Inv p v → Paired p v → Inv (undone p st) (with_states v v.states (v.at - 1))
 did_undo p v [] is idle pos h q = let z : length p.standing ≡ 0 = ap length is in absurd (omega (arith, q.lined.deep))
@@ -223,7 +216,7 @@ fed_push p [] e = refl
 fed_push p (x ∷ log) e = fed_push (advance x p) log e
 
 pub sits : {F : Type 0} {log : List (Event F)} {v : View F} → Sitting log v → Inv (plain.plain log) v
-sits (none {v = v} off) = record { started = off; paired = λ on. not_both v.started off on }
+sits (none {v = v} off) = record { started = off; paired = λ on. absurd (false≢true (sym off ∙ on)) }
 sits (more {log = log} {v = v} {w = w} s e f) = subst (λ p. Inv p w) (sym (fed_push unstarted log e)) (moves e.done e.call (plain.plain log) v w (sits s) f)
 
 pub shown : {F : Type 0} (p : Plain F) (v : View F) → Inv p v → Agrees p v

@@ -57,6 +57,7 @@ pub enum Fault {
 
 impl Fault {
     // The number that the fault is told by.
+    // The numbers are no discriminants: Rattle takes none where a variant holds data.
     pub fn code(self) -> u8
         ensures { result ≡ code self }
     {

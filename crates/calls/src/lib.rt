@@ -15,8 +15,6 @@ pub use step::Step;
 
 // An editor whose calls each move what it stands for as they say shows, after every list of calls, what the plain-list
 // editor gives.
-pub fn history_stands<F>() -> u8
+pub fn history_stands<F>()
     ensures { HistoryLaw F }
-{
-    0
-}
+{}

@@ -1,4 +1,5 @@
 // The five steps of an edit, each on a track.
+// Each variant names its track, as the plain-list editor's steps do: a struct around them would be no plainer.
 use crate::span::Span;
 
 #[derive(Drop)]
