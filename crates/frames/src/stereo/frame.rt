@@ -51,10 +51,8 @@ impl Frame for Stereo {
     }
 
     fn write_bytes(self, out: &mut [u8]) -> Result<(), TooShort> {
-        if out.len() < 4 {
-            return Err(TooShort);
-        }
-        let (left, right) = out.split_at_mut(2);
+        let bytes = out.first_chunk_mut::<4>().ok_or(TooShort)?;
+        let (left, right) = bytes.split_at_mut(2);
         self.left.write_bytes(left)?;
         self.right.write_bytes(right)
     }
@@ -68,10 +66,8 @@ impl Frame for Stereo {
     }
 
     fn write_line(self, out: &mut [u8]) -> Result<(), TooShort> {
-        if out.len() < 8 {
-            return Err(TooShort);
-        }
-        let (left, right) = out.split_at_mut(4);
+        let line = out.first_chunk_mut::<8>().ok_or(TooShort)?;
+        let (left, right) = line.split_at_mut(4);
         self.left.write_line(left)?;
         self.right.write_line(right)
     }
