@@ -13,11 +13,10 @@ use Rattle.rows.proofs.cutting.pieces_of.Goals as goal
 pub loop-entry-preserved : goal.loop-entry-preserved
 loop-entry-preserved c =
     let more : OnOk c.extend.result (vec_items c.extend.new.self ≡ vec_items c.loop-entry.out ++ option_to_list c.part.result) =
-        fact_from_extend (λ x. x) c.extend.result c.extend.ensures.ran (λ it b. YieldsList-from_once c.part.result b.0) (λ xs e h. h.0 ∙ ap (λ l. vec_items c.loop-entry.out ++ l) (sym (map-id xs) ∙ e))
+    fact_from_extend (λ x. x) c.extend.result c.extend.ensures.ran (λ it b. YieldsList-from_once c.part.result b.0) (λ xs e h. h.0 ∙ ap (λ l. vec_items c.loop-entry.out ++ l) (sym (map-id xs) ∙ e))
     in
     cut_again c.args.row.now c.loop-entry.entry-index _ c.loop-entry.start c.loop-entry.end _ _ c.part.result (vec_items c.loop-entry.out) _ _ c.loop-entry-test.true c.part.ensures c.saturating_sub-start.ensures c.saturating_sub-end.ensures
-    (search rules)
-    c.loop-entry.invariant
+    (search rules) c.loop-entry.invariant
 
 pub returns : goal.returns
 returns c =

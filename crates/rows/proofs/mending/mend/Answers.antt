@@ -12,11 +12,10 @@ use Rattle.rows.proofs.mending.mend.Goals as goal
 pub loop-next-preserved : goal.loop-next-preserved
 loop-next-preserved c =
     let more : OnOk c.extend.result (vec_items c.extend.new.self ≡ vec_items c.loop-next.out ++ option_to_list c.meet-met.result.settled) =
-        fact_from_extend (λ x. x) c.extend.result c.extend.ensures.ran (λ it b. YieldsList-from_once c.meet-met.result.settled b.0) (λ xs e h. h.0 ∙ ap (λ l. vec_items c.loop-next.out ++ l) (sym (map-id xs) ∙ e))
+    fact_from_extend (λ x. x) c.extend.result c.extend.ensures.ran (λ it b. YieldsList-from_once c.meet-met.result.settled b.0) (λ xs e h. h.0 ∙ ap (λ l. vec_items c.loop-next.out ++ l) (sym (map-id xs) ∙ e))
     in
     mend_again c.args.limit c.loop-next.last _ c.loop-next.next-index _ c.meet-met.result _ _ _ c.loop-next-test.true c.meet-met.ensures
-    (search rules)
-    c.loop-next.invariant
+    (search rules) c.loop-next.invariant
 
 pub returns : goal.returns
 returns c =
