@@ -1,15 +1,7 @@
 -- The header of a slot, and what a put writes.
-use Rattle.std.proofs.Common.{◌≡◌, ℕ, ◌+◌, ◌*◌, ◌/◌, ◌%◌, ◌≤◌, List, [], ◌∷◌, ◌++◌, length, take, drop, sym, refl, ap, ◌∙◌, arith}
-use lib.Seq.{paste}
-use Rattle.std.specs.List.{flat_map}
-use Rattle.slot_stores.specs.declared.check.Check.{Check}
-use Rattle.slot_stores.specs.Checks.{grown, summed, no_check}
-use Rattle.slot_stores.specs.Image.{four, checked, slot_length, written}
+use Rattle.std.proofs.Common.{◌≡◌, ℕ, ◌+◌, ◌*◌, ◌/◌, ◌%◌, ◌≤◌, List, [], ◌∷◌, length, refl, arith}
+use Rattle.slot_stores.specs.Image.{slot_length, written}
 use Rattle.slot_stores.proofs.Framed.{joined_length}
-
-pub summed_append : (s : Check) (xs ys : List ℕ) → summed s (xs ++ ys) ≡ summed (summed s xs) ys
-summed_append s [] ys = refl
-summed_append s (x ∷ xs) ys = summed_append (grown s x) xs ys
 
 -- four bytes give a length back
 pub four_back : (n : ℕ) → n ≤ 65536 → n % 256 + 256 * (n / 256 % 256) + 65536 * (n / 65536 % 256) + 16777216 * (n / 16777216 % 256) ≡ n

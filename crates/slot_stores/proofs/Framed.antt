@@ -1,30 +1,11 @@
 -- Frames in bytes, one after the other.
-use Rattle.std.proofs.Common.{◌≡◌, ℕ, zero, suc, ◌+◌, ◌*◌, ◌<◌, cond, eqb, List, [], ◌∷◌, ◌++◌, length, get_or, take, drop, Some, None, Ok, Err, Option, Result, sym, ap, ◌∙◌, subst, append_assoc, suc-mul, zero-mul, arith, length-append}
+use Rattle.std.proofs.Common.{◌≡◌, ℕ, zero, suc, ◌+◌, ◌*◌, ◌<◌, List, [], ◌∷◌, ◌++◌, length, get_or, take, drop, sym, ap, ◌∙◌, subst, append_assoc, suc-mul, zero-mul, arith, length-append}
 use Rattle.std.specs.List.{flat_map}
-use Rattle.std.proofs.lemmas.List.{same_lists, take_more, flat_map_more, take_at, drop_at, drop-drop, drop_all, append-nil}
+use Rattle.std.proofs.lemmas.List.{same_lists, take_at, drop_at, drop-drop}
 use Rattle.std.proofs.lemmas.List.FromFn.{length-map-range_with_len, get_or-map-range_with_len}
-use Rattle.std.proofs.lemmas.Bool.{cond-true, eq-eqb}
-use Rattle.frames.specs.Written.{Written}
 use Rattle.slot_stores.specs.Image.{decoded}
 
--- a list that is written over as many bytes as it has leaves itself
-pub written_whole : {U E : Type 0} (xs was is : List ℕ) (r : Result U E) → length was ≡ length xs → Written xs was is r → is ≡ xs
-written_whole xs was is (Ok _) len h = h.1 ∙ ap (λ z. xs ++ z) (drop_all (length xs) was (omega arith)) ∙ append-nil xs
-written_whole xs was is (Err _) len h = absurd (omega (arith, h.0))
-
-module _ {F : Type 0} where
-  -- a frame is read where its bytes are as many
-  pub read_whole : (m n : ℕ) (y : F) (o : Option F) → m ≡ n → o ≡ cond (eqb m n) (Some y) None → o ≡ Some y
-  read_whole m n y o len h = h ∙ cond-true (eqb m n) (Some y) None (eq-eqb m n len)
-
-  pub same_some : (x y : F) → Some x ≡ Some y → x ≡ y
-  same_some x y e = cc
-
 module _ {F : Type 0} (encode : F → List ℕ) where
-  pub joined_next : (xs : List F) (i : ℕ) (x : F) → i < length xs → x ≡ get_or xs i x → flat_map encode (take i xs) ++ encode x ≡ flat_map encode (take (i + 1) xs)
-  joined_next xs i x h is =
-      flat_map_more encode [] (take i xs) x ∙ ap (λ y. flat_map encode (take i xs ++ (y ∷ []))) is ∙ ap (flat_map encode) (sym (take_more xs i x h))
-
   module _ (width : ℕ) (long : (f : F) → length (encode f) ≡ width) where
     pub joined_length : (xs : List F) → length (flat_map encode xs) ≡ length xs * width
     joined_length [] = sym (zero-mul width)

@@ -1,15 +1,15 @@
 -- What the memory store's fields say of its blocks.
 use Rattle.std.proofs.Common.{◌≡◌, ℕ, ◌+◌, ◌-◌, ◌*◌, ◌<◌, ◌≤◌, ◌≢◌, List, [], length, get_or, take, drop, set, Ok, vec_items, vec_len, sym, ap, ◌∙◌, subst, inl, inr, ⊎_elim, arith, length-drop, length-take, get_or-set_other, get_or-set_same}
 use lib.Seq.{paste}
-use Rattle.std.proofs.lemmas.List.{take-take, drop-take, drop-drop, set_past}
-use Rattle.std.proofs.lemmas.Bool.{cases_lt, cases_eq}
+use Rattle.std.proofs.lemmas.List.{take-take, drop-take, drop-drop}
+use Rattle.std.proofs.lemmas.Bool.{cases_lt}
 use Rattle.slot_stores.specs.declared.memory.MemoryStore.{MemoryStore}
 use Rattle.stores.specs.Meaning.{block, capacity}
 use Rattle.stores.specs.Promise.{placed}
 use Rattle.stores.proofs.Refusals.{put_passes, place_found}
 use Rattle.slot_stores.specs.Memory.{memory, slot_frames}
 use Rattle.slot_stores.specs.Slots.{numbered}
-use Rattle.slot_stores.proofs.Numbered.{numbered_at, numbered_past, numbered_set, numbered_length, within, apart, slots_fit, slots_few, limit_of}
+use Rattle.slot_stores.proofs.Numbered.{numbered_at, numbered_past, numbered_set, numbered_length, within, apart, slots_fit, slots_few}
 use Rattle.slot_stores.proofs.Pasted.{pasted_here, pasted_apart}
 
 module _ {F : Type 0} (s : MemoryStore F) where
@@ -20,9 +20,6 @@ module _ {F : Type 0} (s : MemoryStore F) where
 
   pub few : s.slots ≤ 1024
   few = subst (λ n. n ≤ 1024) (sym s.whole) (slots_few s.limit s.limit (vec_len s.frames))
-
-  pub limit_small : (i : ℕ) → i < s.slots → s.limit ≤ 65536
-  limit_small i h = limit_of s.limit s.limit (vec_len s.frames) i (subst (λ n. i < n) s.whole h)
 
   -- a slot lies within the frames
   pub room : (i : ℕ) → i < s.slots → i * s.limit + s.limit ≤ length (vec_items s.frames)
@@ -101,14 +98,3 @@ module _ {F : Type 0} (xs : List F) (limit slots : ℕ) (lengths : List ℕ) whe
       ap (λ m. take m (drop (k * limit) ys)) (get_or-set_other lengths i k (length b) 0 ne) ∙
       ap (λ l. take n (drop (k * limit) l)) is ∙
       pasted_apart xs at b (k * limit) n room away)
-
--- no length is above the limit after one of them is set
-pub set_below : (xs : List ℕ) (i v limit : ℕ) → v ≤ limit → ((n : ℕ) → get_or xs n 0 ≤ limit) → (n : ℕ) → get_or (set xs i v) n 0 ≤ limit
-set_below xs i v limit le all n =
-    ⊎_elim
-    (λ e. ⊎_elim
-    (λ lt. omega (arith, ap (λ k. get_or (set xs i v) k 0) e, get_or-set_same xs i v 0 lt))
-    (λ past. omega (arith, ap (λ l. get_or l n 0) (set_past xs i v past), all n))
-    (cases_lt i (length xs)))
-    (λ ne. omega (arith, get_or-set_other xs i n v 0 ne, all n))
-    (cases_eq n i)

@@ -9,8 +9,8 @@ pub struct MemoryStore<K> {
     frames: Vec<K>,
     limit: usize,
     slots: usize,
-    // The length of each slot's block, 0 where the number is free. The lengths stay in an array beside
-    // the frames: a store that is made asks for no memory, so that it never fails.
+    // The length of each slot's block, 0 where the number is free.
+    // They stay in a fixed array: a store that is made asks for no memory.
     lengths: [u32; 1024],
     ghost whole: { slots ≡ count_of_slots limit limit (vec_len frames) },
     ghost sized: { (n : ℕ) → slice_index lengths n ≤ limit },

@@ -39,7 +39,7 @@ pub(crate) fn write_frames<K: Frame>(body: &mut [u8], frames: &[K])
     ensures { body.new ≡ flat_map K.Frame.encoded frames.now }
 {
     let width = K::width();
-    // By number: what parts that an iterator lends hold in the end, a proof does not learn.
+    // By number, since a proof does not learn what is written through `chunks_exact_mut`.
     for (i, frame) in frames.iter().enumerate() {
         let at = i * width;
         let _ = frame.write_bytes(&mut body[at..at + width]);
@@ -70,11 +70,6 @@ pub(crate) fn write_slot<K: Frame>(slot: &mut [u8], frames: &[K])
 {
     let (head, body) = slot.split_at_mut(6);
     write_frames(body, frames);
-    let check = Check {
-        first: 0,
-        second: 0,
-    }
-    .over(&four(frames.len()))
-    .over(body);
+    let check = Check::default().over(&four(frames.len())).over(body);
     head.copy_from_slice(&header(frames.len(), check));
 }

@@ -1,4 +1,4 @@
-use Rattle.std.proofs.Common.{◌≡◌, ◌+◌, ◌-◌, ◌*◌, ◌<◌, ◌≤◌, length, vec_items, sym, refl, ap, ◌∙◌, subst, add-one, arith, rules}
+use Rattle.std.proofs.Common.{◌≡◌, ◌+◌, ◌-◌, ◌*◌, ◌<◌, vec_items, sym, refl, ap, ◌∙◌, subst, add-one, arith, rules}
 use lib.Seq.{paste}
 use Rattle.slot_stores.specs.Image.{cleared, imaged, image_slots, no_length, slot_bytes}
 use Rattle.slot_stores.proofs.Pasted.{written_over}

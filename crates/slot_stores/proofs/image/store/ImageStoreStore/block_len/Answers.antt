@@ -1,4 +1,4 @@
-use Rattle.std.proofs.Common.{◌≡◌, ◌+◌, ◌-◌, ◌*◌, ◌<◌, ◌≤◌, length, take, drop, vec_items, sym, ap, ◌∙◌, subst, arith}
+use Rattle.std.proofs.Common.{◌≡◌, ◌+◌, ◌-◌, ◌<◌, ◌≤◌, length, take, drop, vec_items, sym, ap, ◌∙◌, subst, arith}
 use Rattle.slot_stores.specs.Image.{length_in_slot, slot_bytes}
 use Rattle.slot_stores.proofs.InImage.{block_none, block_long}
 use Rattle.slot_stores.proofs.image.store.ImageStoreStore.block_len.Goals as goal

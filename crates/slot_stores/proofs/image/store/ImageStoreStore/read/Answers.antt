@@ -51,8 +51,7 @@ returns-clause-promised g c =
     let u = c.width-width.result in
     let at = c.slot_start.result + 6 + o * u in
     let p = read_told (image g.K.Frame s) n o k _ _ _ c.check_read.ensures c.map_err.ensures.variant c.in_ok-map_err.was in
-    let same : at + k * u - at ≡ k * u = omega arith in
-    (
+    let same : at + k * u - at ≡ k * u = omega arith in (
       p.0,
       c.read_frames.ensures ∙
           ap (decoded w dec k) (

@@ -36,8 +36,7 @@ returns-clause-promised g c =
     let k = length c.args.buffer.now in
     let at = c.slot_start.result + o in
     let p = read_told (memory s) n o k _ _ _ c.check_read.ensures c.map_err.ensures.variant c.in_ok-map_err.was in
-    let same : at + k - at ≡ k = omega arith in
-    (
+    let same : at + k - at ≡ k = omega arith in (
       p.0,
       c.copy_from_slice.ensures.after ∙ ap (λ m. take m (drop at c.deref.result.now)) same ∙ ap (λ l. take k (drop at l)) c.deref.ensures.value ∙
           ap (λ v. take k (drop (v + o) (vec_items s.frames))) c.slot_start.ensures.value ∙ part_is s n o k p.1 p.2,
