@@ -1,6 +1,5 @@
 -- What a walk over a row's entries reads, and where it breaks off. Assumes nothing.
-use Rattle.std.proofs.Common.{◌≡◌, ℕ, ◌+◌, ◌-◌, ◌^◌, ◌<◌, ◌≤◌, false, List, ◌++◌, length, take, drop, Ok, Err, Result, sym, ap, ◌∙◌, ⊎_elim, arith, take-append-drop}
-use Rattle.std.proofs.lemmas.Bool.{cases_lt, both_ways}
+use Rattle.std.proofs.Common.{◌≡◌, ℕ, ◌+◌, ◌-◌, ◌^◌, ◌<◌, false, List, ◌++◌, length, take, drop, Ok, Err, Result, rules, sym, ap, ◌∙◌, arith, take-append-drop}
 use Rattle.std.proofs.lemmas.List.{drop-drop}
 use Rattle.rows.specs.declared.entry.Entry.{Entry}
 use Rattle.stores.specs.Meaning.{Meaning, block}
@@ -36,7 +35,7 @@ module _ {F : Type 0} where
       at = omega (arith, b.at, b.placed, b.low, b.some);
       written = b.written ∙ ap (λ z. take b.done (drop start (frames m es)) ++ z) (ap (λ z. z ++ drop (b.done + b.count) old) b.fails.1 ∙ ap (λ z. take b.count (drop b.done old) ++ z) (sym (drop-drop b.count b.done old)) ∙ take-append-drop b.count (drop b.done old)) ∙ ap (λ z. take z (drop start (frames m es)) ++ drop z old) b.placed;
       fails = b.fails.0;
-      first = λ a. ⊎_elim (λ (l : 0 < b.done). absurd (both_ways m.ailing (b.serves l) a)) (λ (l : b.done ≤ 0). omega (arith, b.placed)) (cases_lt 0 b.done);
+      first = λ a. let serves = b.serves in let placed = b.placed in search (rules, arith);
     }
 
     -- what a walk over the entries gives is what a read of the row does

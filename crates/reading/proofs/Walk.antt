@@ -1,5 +1,5 @@
 -- A walk over the parts f x of a list xs, that copies into a buffer what lies from start on. Assumes nothing.
-use Rattle.std.proofs.Common.{◌≡◌, ℕ, ◌+◌, ◌-◌, ◌<◌, ◌≤◌, min, List, [], ◌∷◌, ◌++◌, length, get_or, take, drop, sym, refl, ap, ◌∙◌, subst, ⊎_elim, arith, length-append, length-drop}
+use Rattle.std.proofs.Common.{◌≡◌, ℕ, ◌+◌, ◌-◌, ◌<◌, ◌≤◌, min, List, [], ◌∷◌, ◌++◌, length, get_or, take, drop, rules, sym, refl, ap, ◌∙◌, subst, ⊎_elim, arith, length-append, length-drop}
 use lib.Seq.{take-append-add, drop-append-add}
 use borrow.Rule.Slice.PartMut.{put_mid}
 use Rattle.std.specs.List.{flat_map}
@@ -70,11 +70,7 @@ module _ {X A : Type 0} (f : X → List A) where
 
       -- where the walk would write next
       pub walk_at : skip < length (f x) → done < length old → length (flat_map f (take i xs)) - start ≡ done
-      walk_at h more =
-          ⊎_elim
-          (λ (l : 0 < done). omega (arith, w.place more, w.fresh l))
-          (λ (l : done ≤ 0). omega (arith, w.place more))
-          (cases_lt 0 done)
+      walk_at h more = let place = w.place more in let fresh = w.fresh in search (rules, arith)
 
       pub walk_read : (n k : ℕ) (part : List A) → skip < length (f x) → n ≡ min (length old - done) (length (f x) - skip) → k ≡ n → part ≡ take n (drop skip (f x)) → Walk xs start old (i + 1) 0 (done + n) (put_mid done k new part)
       walk_read n k part h least ek ep =
