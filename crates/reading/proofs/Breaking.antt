@@ -1,8 +1,7 @@
 -- Where the walk over parts breaks off. Assumes nothing.
-use Rattle.std.proofs.Common.{◌≡◌, ℕ, ◌+◌, ◌-◌, ◌^◌, ◌<◌, ◌≤◌, min, List, ◌++◌, length, get_or, take, drop, sym, ap, ◌∙◌, ⊎_elim, arith}
+use Rattle.std.proofs.Common.{◌≡◌, ℕ, ◌+◌, ◌-◌, ◌^◌, ◌<◌, min, List, ◌++◌, length, get_or, take, drop, rules, sym, ap, ◌∙◌, arith}
 use borrow.Rule.Slice.PartMut.{put_mid}
 use Rattle.std.specs.List.{flat_map}
-use Rattle.std.proofs.lemmas.Bool.{cases_lt}
 use Rattle.std.proofs.lemmas.List.{drop-drop}
 use Rattle.stores.specs.Meaning.{Meaning}
 use Rattle.reading.specs.declared.fault.ReadFault.{ReadFault}
@@ -23,8 +22,8 @@ module _ {X S F : Type 0} (p : part.Ghosts X S F) where
       let before : List F = flat_map (p.frames m) (take i xs) in
       let place = w.place more in
       let placed : done ≡ length before - start = sym (walk_at (p.frames m) xs start old i skip done new w x here read (omega arith) more) in
-      let offset : skip ≡ start - length before = ⊎_elim (λ (l : 0 < done). omega (arith, place, w.fresh l)) (λ (l : done ≤ 0). omega arith) (cases_lt 0 done) in
-      let Failed : ℕ → ℕ → List F → Type 0 = λ s c z. p.fails m x s (take c z) f.fault left m' in
+      let fresh = w.fresh in
+      let offset : skip ≡ start - length before = search (rules, arith) in
       record {
         before = take i xs;
         part = x;

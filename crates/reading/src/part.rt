@@ -1,4 +1,4 @@
-// The parts of a sequence of frames over a store, and the walk over them.
+// The parts that a sequence of frames over a store is joined of.
 ghost use Rattle.std.specs.Prelude.{◌≡◌, ℕ, ◌+◌, ◌<◌, ◌≤◌, List, length};
 ghost use Rattle.stores.specs.Meaning.{Meaning};
 ghost use Rattle.stores.specs.declared.fault.StoreFault.{StoreFault};
@@ -17,7 +17,7 @@ pub(crate) trait Part<S: Store> {
     // What ties it to the store.
     ghost tied: { Meaning S.Kind → Self → Type 0 };
 
-    // What a store is that a part was filled from.
+    // What holds of a store that frames of a part were filled from.
     ghost serves: { Meaning S.Kind → Type 0 };
 
     // How a fill that failed is told, from an offset on and by the buffer before and after.
