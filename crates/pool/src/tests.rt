@@ -20,8 +20,8 @@ const CUTS: [Cut; 3] = [
     Cut { at: 11, len: 7 },
 ];
 
-// A pool of six numbers of at most eight frames, whose put or read number `trip_at` fails.
-fn pool(heap: Global, trip_at: u64) -> Result<Pool<Tripping<MemoryStore<Mono>>>, Fail> {
+// A pool of six numbers of at most eight frames, whose put or read number `trip_at` fails, if one is to.
+fn pool(heap: Global, trip_at: Option<u64>) -> Result<Pool<Tripping<MemoryStore<Mono>>>, Fail> {
     let frames = vec![in heap; Mono::new(0); 48]?;
     let mut pool = Pool::new(heap, Tripping::new(MemoryStore::new(frames, 8), trip_at));
     pool.start(heap)?;
@@ -81,7 +81,7 @@ fn put_ends<S: Store>(
 
 #[test]
 fn puts_and_reads_are_counted(rt: HostRuntime) -> Result<(), Fail> {
-    let mut pool = pool(rt.alloc(), 0)?;
+    let mut pool = pool(rt.alloc(), None)?;
     assert!(rt; put_row(rt.alloc(), &mut pool, take(rt.alloc())?.as_slice())?);
     assert_eq!(rt; pool.store.counted(), 3);
     let mut buffer = vec![in rt.alloc(); Mono::new(0); 10]?;
@@ -96,7 +96,7 @@ fn puts_and_reads_are_counted(rt: HostRuntime) -> Result<(), Fail> {
 
 #[test]
 fn a_failed_put_leaves_nothing_behind(rt: HostRuntime) -> Result<(), Fail> {
-    let mut pool = pool(rt.alloc(), 2)?;
+    let mut pool = pool(rt.alloc(), Some(2))?;
     assert!(rt; !put_row(rt.alloc(), &mut pool, take(rt.alloc())?.as_slice())?);
     assert!(rt; pool.store.is_ailing());
     assert_eq!(rt; pool.store.free(), 6);
@@ -105,7 +105,7 @@ fn a_failed_put_leaves_nothing_behind(rt: HostRuntime) -> Result<(), Fail> {
 
 #[test]
 fn a_block_goes_with_its_last_entry(rt: HostRuntime) -> Result<(), Fail> {
-    let mut pool = pool(rt.alloc(), 0)?;
+    let mut pool = pool(rt.alloc(), None)?;
     assert!(rt; put_row(rt.alloc(), &mut pool, take(rt.alloc())?.as_slice())?);
     pool.hold(&ROW);
     pool.hold(&ROW[1..2]);
