@@ -3,7 +3,6 @@ ghost use Rattle.std.specs.Prelude.{◌<◌};
 
 use frames::Frame;
 use measures::{Extent, extent_of};
-use std::alloc::{AllocError, Global};
 
 const COLUMNS: usize = 64;
 
@@ -13,7 +12,7 @@ const ROWS: usize = 9;
 fn zoom_of(count: usize) -> usize
     ensures { 0 < result }
 {
-    (count / COLUMNS + usize::from(count % COLUMNS > 0)).max(1)
+    count.div_ceil(COLUMNS).max(1)
 }
 
 // The row, from the top, in which a sample of 16 bits lies.
@@ -32,27 +31,19 @@ fn mark(column: &Extent, row: usize) -> char {
     }
 }
 
-// The extents of `zoom` frames each, the last of those that are left.
-fn columns<K: Frame>(heap: Global, frames: &[K], zoom: usize) -> Result<Vec<Extent>, AllocError>
-    requires { 0 < zoom }
-{
-    let mut columns = Vec::new(heap);
-    for stretch in frames.chunks(zoom) {
-        columns.push(extent_of(stretch))?;
-    }
-    Ok(columns)
-}
-
 // Prints the wave.
 pub fn draw<K: Frame>(rt: &HostRuntime, frames: &[K]) -> anyhow::Result<()> {
     let zoom = zoom_of(frames.len());
-    let columns = columns(rt.alloc(), frames, zoom)?;
+    let columns: Vec<Extent> = frames
+        .chunks(zoom)
+        .map(|stretch| extent_of(stretch))
+        .collect(rt.alloc())?;
     println!(rt; "wave, frames a column: {zoom}")?;
     for row in 0..ROWS {
-        let mut line = String::new(rt.alloc());
-        for column in columns.as_slice() {
-            line.push(mark(column, row))?;
-        }
+        let line: String = columns
+            .iter()
+            .map(|column| mark(column, row))
+            .collect(rt.alloc())?;
         println!(rt; "{line}")?;
     }
     Ok(())

@@ -1,6 +1,7 @@
 // Reads a take from standard input, one frame a line, and prints what it found.
 #![tactic(auto)]
 
+mod blocks;
 mod drawing;
 mod keeping;
 mod planning;
@@ -16,10 +17,10 @@ fn run(rt: &HostRuntime) -> anyhow::Result<()> {
     let mut text = Vec::new(rt.alloc());
     rt.stdin().read_to_end(&mut text)?;
     let text = text.as_slice();
-    match kind_of(text) {
-        Some(Kind::Mono) => report::<Mono>(rt, "mono", text),
-        Some(Kind::Stereo) => report::<Stereo>(rt, "stereo", text),
-        None => report::<Mono>(rt, "unknown", text),
+    let kind = kind_of(text);
+    match kind {
+        Some(Kind::Stereo) => report::<Stereo>(rt, kind, text),
+        Some(Kind::Mono) | None => report::<Mono>(rt, kind, text),
     }
 }
 
