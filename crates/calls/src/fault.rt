@@ -57,7 +57,7 @@ pub enum Fault {
 
 impl Fault {
     // The number that the fault is told by.
-    // The numbers are no discriminants: Rattle takes none where a variant holds data.
+    // A match: Rattle takes no numbers as discriminants where a variant holds data, and `From` would hold the same match.
     pub fn code(self) -> u8
         ensures { result ≡ code self }
     {

@@ -17,20 +17,24 @@ fn comes_back<K: Frame>(frame: K, width: usize) -> Option<(K, K)> {
     ))
 }
 
+// Whether the frame that is made of each end comes back.
+fn all_come_back<K: Frame + PartialEq, F: Fn(i16) -> K>(width: usize, make: F) -> bool
+    requires { F.IsAlwaysCallable make }
+{
+    ENDS.iter().all(|end| {
+        let frame = make(*end);
+        comes_back(frame, width) == Some((frame, frame))
+    })
+}
+
 #[test]
 fn mono_comes_back(rt: HostRuntime) {
-    for value in ENDS {
-        let frame = Mono::new(value);
-        assert_eq!(rt; comes_back(frame, 2), Some((frame, frame)));
-    }
+    assert!(rt; all_come_back(2, Mono::new));
 }
 
 #[test]
 fn stereo_comes_back(rt: HostRuntime) {
-    for left in ENDS {
-        let frame = Stereo::new(left, 32767);
-        assert_eq!(rt; comes_back(frame, 4), Some((frame, frame)));
-    }
+    assert!(rt; all_come_back(4, |left| Stereo::new(left, 32767)));
 }
 
 #[test]

@@ -1,6 +1,6 @@
 // Rows, cutting and mending on examples: inside blocks and at borders, and with lengths that add up past 64 bits.
 use crate::{Entry, Piece, Row, mend, new_blocks, pieces_of};
-use std::ops::Range;
+use std::alloc::AllocError;
 use std::process::Abort;
 use std::test::Fail;
 
@@ -8,25 +8,13 @@ const LONGEST: usize = usize::MAX;
 // Half of 2^64.
 const HALF: usize = 0x8000_0000_0000_0000;
 
-fn mends(
-    rt: &(impl Abort + AllocGlobal),
-    limit: usize,
-    pieces: &[Piece],
+// Fails where other pieces came out, or none.
+fn gives(
+    rt: &impl Abort,
+    pieces: Result<Vec<Piece>, AllocError>,
     into: &[Piece],
 ) -> Result<(), Fail> {
-    let v = mend(rt.alloc(), limit, pieces)?;
-    assert_eq!(rt; v.as_slice(), into);
-    Ok(())
-}
-
-fn cuts(
-    rt: &(impl Abort + AllocGlobal),
-    row: &[Entry],
-    span: Range<usize>,
-    into: &[Piece],
-) -> Result<(), Fail> {
-    let v = pieces_of(rt.alloc(), row, span)?;
-    assert_eq!(rt; v.as_slice(), into);
+    assert_eq!(rt; pieces?.as_slice(), into);
     Ok(())
 }
 
@@ -40,13 +28,16 @@ fn worked_cases(rt: HostRuntime) -> Result<(), Fail> {
         Piece::loose(7),
         Piece::loose(8),
     ];
-    mends(
+    gives(
         &rt,
-        8,
-        &[old, one, eight, seven],
+        mend(rt.alloc(), 8, &[old, one, eight, seven]),
         &[four, five, eight, seven],
     )?;
-    mends(&rt, 8, &[old, one, old], &[four, five, old])?;
+    gives(
+        &rt,
+        mend(rt.alloc(), 8, &[old, one, old]),
+        &[four, five, old],
+    )?;
     assert_eq!(rt; new_blocks(&[four, five, old]), 2);
     Ok(())
 }
@@ -55,18 +46,29 @@ fn worked_cases(rt: HostRuntime) -> Result<(), Fail> {
 fn past_64_bits(rt: HostRuntime) -> Result<(), Fail> {
     let long = Piece::whole(7, LONGEST);
     let half = Piece::loose(HALF);
-    mends(&rt, 8, &[long, long], &[long, long])?;
-    mends(&rt, 8, &[Piece::loose(1), long], &[half, half])?;
-    mends(&rt, LONGEST, &[long, Piece::loose(1)], &[half, half])?;
+    gives(&rt, mend(rt.alloc(), 8, &[long, long]), &[long, long])?;
+    gives(
+        &rt,
+        mend(rt.alloc(), 8, &[Piece::loose(1), long]),
+        &[half, half],
+    )?;
+    gives(
+        &rt,
+        mend(rt.alloc(), LONGEST, &[long, Piece::loose(1)]),
+        &[half, half],
+    )?;
     let entry = Entry {
         block: 7,
         len: LONGEST,
     };
-    cuts(&rt, &[entry, entry], 0..LONGEST, &[long])?;
-    cuts(
+    gives(
         &rt,
-        &[entry, entry],
-        1..LONGEST,
+        pieces_of(rt.alloc(), &[entry, entry], 0..LONGEST),
+        &[long],
+    )?;
+    gives(
+        &rt,
+        pieces_of(rt.alloc(), &[entry, entry], 1..LONGEST),
         &[Piece::loose(LONGEST - 1)],
     )
 }
@@ -79,15 +81,22 @@ fn inside_and_at_borders(rt: HostRuntime) -> Result<(), Fail> {
         Entry { block: 3, len: 7 },
     ];
     let middle = Piece::whole(2, 6);
-    cuts(
+    gives(
         &rt,
-        &row,
-        2..13,
+        pieces_of(rt.alloc(), &row, 2..13),
         &[Piece::loose(3), middle, Piece::loose(2)],
     )?;
-    cuts(&rt, &row, 0..5, &[Piece::whole(1, 5)])?;
-    cuts(&rt, &row, 5..18, &[middle, Piece::whole(3, 7)])?;
-    cuts(&rt, &row, 5..5, &[])
+    gives(
+        &rt,
+        pieces_of(rt.alloc(), &row, 0..5),
+        &[Piece::whole(1, 5)],
+    )?;
+    gives(
+        &rt,
+        pieces_of(rt.alloc(), &row, 5..18),
+        &[middle, Piece::whole(3, 7)],
+    )?;
+    gives(&rt, pieces_of(rt.alloc(), &row, 5..5), &[])
 }
 
 #[test]

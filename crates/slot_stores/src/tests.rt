@@ -6,16 +6,13 @@ use std::process::Abort;
 use std::test::Fail;
 use stores::{Store, StoreFault, Tripping};
 
-// The number of the error, 0 where there is none.
+// The number of the error, 0 where there is none: no refusal has that number.
 fn code<T: Drop>(answer: Result<T, StoreFault>) -> u8 {
-    match answer {
-        Ok(_) => 0,
-        Err(fault) => fault.error.code(),
-    }
+    answer.err().map_or(0, |fault| fault.error.code())
 }
 
-// Puts, reads, releases and puts again in a new store of two slots of four frames.
-fn blocks_are_kept<S: Store<Kind = Mono>>(rt: &impl Abort, store: &mut S) -> Result<(), Fail> {
+// Puts, reads, releases and puts again in a new store of two slots of four frames; what it refuses then.
+fn keeps_blocks<S: Store<Kind = Mono> + Drop>(rt: &impl Abort, mut store: S) -> Result<(), Fail> {
     let first = store.put(&[Mono::new(1), Mono::new(-2), Mono::new(3)])?;
     let second = store.put(&[Mono::new(4)])?;
     let mut pair = [Mono::new(0); 2];
@@ -31,11 +28,12 @@ fn blocks_are_kept<S: Store<Kind = Mono>>(rt: &impl Abort, store: &mut S) -> Res
         [1, 0, 1]
     );
     assert_eq!(rt; store.put(&[Mono::new(7); 4])?, first);
+    refuses_others(rt, &mut store);
     Ok(())
 }
 
 // What the same store, now with both numbers taken, refuses.
-fn others_are_refused<S: Store<Kind = Mono>>(rt: &impl Abort, store: &mut S) {
+fn refuses_others<S: Store<Kind = Mono>>(rt: &impl Abort, store: &mut S) {
     let mut pair = [Mono::new(8); 2];
     let codes = [
         code(store.read(2, 0, &mut pair)),
@@ -52,18 +50,14 @@ fn others_are_refused<S: Store<Kind = Mono>>(rt: &impl Abort, store: &mut S) {
 
 #[test]
 fn memory_keeps_blocks(rt: HostRuntime) -> Result<(), Fail> {
-    let mut store = MemoryStore::new(vec![in rt.alloc(); Mono::new(9); 8]?, 4);
-    blocks_are_kept(&rt, &mut store)?;
-    others_are_refused(&rt, &mut store);
-    Ok(())
+    let frames = vec![in rt.alloc(); Mono::new(9); 8]?;
+    keeps_blocks(&rt, MemoryStore::new(frames, 4))
 }
 
 #[test]
 fn image_keeps_blocks(rt: HostRuntime) -> Result<(), Fail> {
-    let mut store: ImageStore<Mono> = ImageStore::new(vec![in rt.alloc(); 255; 28]?, 4);
-    blocks_are_kept(&rt, &mut store)?;
-    others_are_refused(&rt, &mut store);
-    Ok(())
+    let bytes = vec![in rt.alloc(); 255; 28]?;
+    keeps_blocks(&rt, ImageStore::new(bytes, 4))
 }
 
 #[test]

@@ -1,5 +1,6 @@
 // Mono frames as a kind of frame: two bytes, low byte first, and four digits.
 ghost use Rattle.std.specs.Prelude.{◌^◌};
+ghost use Rattle.frames.specs.Written.{Written};
 ghost use Rattle.frames.specs.Samples.{square, at_end};
 ghost use Rattle.frames.specs.Monos.{mono_bytes, mono_from, mono_line, mono_parsed, mono_narrow};
 ghost use Rattle.frames.specs.SixteenBits.{mono_decodes, mono_encodes, mono_parses, mono_spells, mono_bounded};
@@ -8,6 +9,15 @@ ghost use Rattle.std.proofs.Common.{arith, rules};
 use crate::frame::{Frame, TooShort};
 use crate::hex::{from_hex, to_hex};
 use crate::mono::Mono;
+
+// Writes the bytes at the front of `out`.
+fn write_front<const N: usize>(bytes: [u8; N], out: &mut [u8]) -> Result<(), TooShort>
+    ensures { Written bytes.entry out.old out.new result }
+{
+    let front = out.first_chunk_mut::<N>().ok_or(TooShort)?;
+    *front = bytes;
+    Ok(())
+}
 
 impl Frame for Mono {
     ghost wide = { 2 };
@@ -53,9 +63,7 @@ impl Frame for Mono {
     }
 
     fn write_bytes(self, out: &mut [u8]) -> Result<(), TooShort> {
-        let bytes = out.first_chunk_mut::<2>().ok_or(TooShort)?;
-        *bytes = self.value.to_le_bytes();
-        Ok(())
+        write_front(self.value.to_le_bytes(), out)
     }
 
     fn read_bytes(bytes: &[u8]) -> Option<Mono> {
@@ -64,9 +72,7 @@ impl Frame for Mono {
     }
 
     fn write_line(self, out: &mut [u8]) -> Result<(), TooShort> {
-        let line = out.first_chunk_mut::<4>().ok_or(TooShort)?;
-        *line = to_hex(self.value.cast_unsigned());
-        Ok(())
+        write_front(to_hex(self.value.cast_unsigned()), out)
     }
 
     fn read_line(text: &[u8]) -> Option<Mono> {

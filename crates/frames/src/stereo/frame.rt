@@ -7,6 +7,8 @@ use crate::frame::{Frame, TooShort};
 use crate::mono::Mono;
 use crate::stereo::Stereo;
 
+// Bytes and lines are halved alike in four functions: one over both would take the halves' call as a
+// closure, and its contract would be longer than they are.
 impl Frame for Stereo {
     ghost wide = { 4 };
 

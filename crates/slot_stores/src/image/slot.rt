@@ -22,7 +22,7 @@ pub(crate) fn header(n: usize, check: Check) -> [u8; 6]
     [a, b, c, d, check.first, check.second]
 }
 
-// The length of the block in a slot, 0 where there is none.
+// The length of the block in a slot, 0 where there is none, as the slot itself tells it.
 pub(crate) fn block_length(slot: &[u8], limit: usize) -> usize
     ensures { result ≡ length_in_slot limit slot.now }
 {
