@@ -67,7 +67,7 @@ impl Frame for Mono {
     }
 
     fn read_bytes(bytes: &[u8]) -> Option<Mono> {
-        let bytes = bytes.as_array()?;
+        let bytes = bytes.as_array::<2>()?;
         Some(Mono::new(i16::from_le_bytes(*bytes)))
     }
 
