@@ -1,4 +1,4 @@
-use Rattle.std.proofs.Common.{◌≡◌, vec_items}
+use Rattle.std.proofs.Common.{◌≡◌, vec_items, vec_len}
 use Rattle.pool.specs.Accounts.{SameCounts}
 use Rattle.pool.specs.Blocks.{emptied}
 use Rattle.pool.specs.Kept.{KeepsRight}
@@ -12,4 +12,4 @@ invariant-loop-number g l = record {
 }
 
 abbrev pub decreases-loop-number : goal.decreases-loop-number
-decreases-loop-number g l = goal.left-loop-number g l
+decreases-loop-number g l = vec_len l.numbers
