@@ -38,32 +38,30 @@ impl<'a, K: Frame + PartialEq> Blocks<'a, K> {
             .collect(heap)
     }
 
-    // Puts the take in new blocks, and gives the row with their numbers.
+    // Puts the take in new blocks, and tells their numbers.
     fn put<S: Store<Kind = K>>(
         &self,
         heap: Global,
         pool: &mut Pool<S>,
-    ) -> Result<Vec<Entry>, PutFault> {
-        let cuts = self.cuts(heap)?;
+        cuts: &[Cut],
+    ) -> Result<Vec<usize>, PutFault> {
         let stretches = [Stretch::Given(self.frames)];
         let mut work = Vec::from_slice(heap, self.frames)?;
         let mut numbers = Vec::new(heap);
-        pool.put_blocks(
-            &stretches,
-            cuts.as_slice(),
-            work.as_mut_slice(),
-            &mut numbers,
-        )?;
-        let row = self
-            .row
+        pool.put_blocks(&stretches, cuts, work.as_mut_slice(), &mut numbers)?;
+        Ok(numbers)
+    }
+
+    // The row with the numbers of its blocks.
+    fn named(&self, heap: Global, numbers: &[usize]) -> Result<Vec<Entry>, AllocError> {
+        self.row
             .iter()
             .zip(numbers.iter())
             .map(|(entry, number)| Entry {
                 block: *number,
                 len: entry.len,
             })
-            .collect(heap)?;
-        Ok(row)
+            .collect(heap)
     }
 
     // Reads a few frames across the first border between two blocks, and tells whether they are the take's.
@@ -90,11 +88,13 @@ impl<'a, K: Frame + PartialEq> Blocks<'a, K> {
     // Keeps the row in counted blocks, reads from it, and lets it go.
     pub fn keep_row(&self, rt: &HostRuntime) -> anyhow::Result<()> {
         let heap = rt.alloc();
+        let cuts = self.cuts(heap)?;
         let mut pool = self.pool(heap, None)?;
-        let row = self
-            .put(heap, &mut pool)
+        let numbers = self
+            .put(heap, &mut pool, cuts.as_slice())
             .ok()
             .context("the take does not fit the image")?;
+        let row = self.named(heap, numbers.as_slice())?;
         let row = row.as_slice();
         pool.hold(row);
         let (blocks, free, puts) = (row.len(), pool.store.free(), pool.store.counted());
@@ -112,11 +112,12 @@ impl<'a, K: Frame + PartialEq> Blocks<'a, K> {
             return Ok(());
         }
         let heap = rt.alloc();
+        let cuts = self.cuts(heap)?;
         let mut pool = self.pool(heap, Some(2))?;
         let before = pool.store.free();
-        let code = match self.put(heap, &mut pool) {
+        let code = match self.put(heap, &mut pool, cuts.as_slice()) {
             Err(PutFault::Store(fault)) => fault.error.code(),
-            _ => 0,
+            Ok(_) | Err(PutFault::NoMemory) => 0,
         };
         let after = pool.store.free();
         println!(rt;

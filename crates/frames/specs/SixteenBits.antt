@@ -1,5 +1,5 @@
 -- Mono and stereo frames: known by their numbers, and inverse to their bytes and lines. Assumes nothing.
-use Rattle.std.specs.Prelude.{◌≡◌, ℕ, suc, ◌+◌, ◌-◌, ◌*◌, ◌^◌, ◌<◌, ◌≤◌, Bool, true, false, cond, List, [], ◌∷◌, ◌++◌, length, take, drop, ℤ, pos, negsuc, Some, None, Option, ◌==◌, nat_lt, slice_index, refl}
+use Rattle.std.specs.Prelude.{◌≡◌, ℕ, suc, ◌+◌, ◌-◌, ◌*◌, ◌^◌, ◌<◌, ◌≤◌, Bool, true, false, cond, List, [], ◌∷◌, ◌++◌, length, take, drop, ℤ, pos, negsuc, Some, None, Option, ◌==◌, ◌≢◌, nat_lt, slice_index, refl}
 use Rattle.std.proofs.Common.{sym, subst, ap, ◌∙◌, arith, take-append-drop, length-take, length-drop}
 use Rattle.std.proofs.Math.Bridge.{le_prop}
 use Rattle.std.specs.Int.Signed.{mag}
@@ -105,3 +105,13 @@ stereo_spells text x e =
     ap (λ xs. xs ++ mono_line x.right) (mono_spells (take 4 text) x.left parts.0)
     ∙ ap (λ xs. take 4 text ++ xs) (mono_spells (drop 4 text) x.right parts.1)
     ∙ take-append-drop 4 text
+
+-- a text of another length is no stereo frame's
+pub stereo_unparsed : (text : List ℕ) → (length text ≢ 8) → stereo_parsed text ≡ None
+stereo_unparsed text other = none (stereo_parsed text) refl
+  where
+    none : (o : Option Stereo) → stereo_parsed text ≡ o → o ≡ None
+    none None e = refl
+    none (Some x) e =
+        let spelled : stereo_line x ≡ text = stereo_spells text x e in
+        absurd (other (sym (ap length spelled)))
