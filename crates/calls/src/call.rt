@@ -12,7 +12,8 @@ pub enum Call<'a, K> {
     Redo,
     Forget,
     Rearm,
-    // So many frames of a row, from a start on.
+    // So many frames of a row, from a start on. A row is told by its number, as whoever calls gives it:
+    // 0 to 3 are the tracks, 4 the clip, and any other is refused.
     Read {
         row: usize,
         start: usize,

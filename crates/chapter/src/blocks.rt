@@ -51,6 +51,7 @@ impl<'a, K: Frame> Blocks<'a, K> {
 
     // A new image, filled with ones before, so that what the store does not write can be told.
     pub fn image(&self, heap: Global, slots: usize) -> Result<ImageStore<K>, AllocError> {
+        // As large as the slots of such an image: six bytes, and room for the frames.
         let slot = K::width().saturating_mul(self.limit).saturating_add(6);
         let bytes = vec![in heap; 0xFFu8; slots.saturating_mul(slot)]?;
         Ok(ImageStore::new(bytes, self.limit))

@@ -1,6 +1,6 @@
 // The take as a row of counted blocks: put, held, read across a border and let go; and a put that fails.
 use crate::blocks::{Blocks, SPARE};
-use crate::storing::sameness;
+use crate::storing::{NO_ROOM, sameness};
 use anyhow::Context;
 use frames::Frame;
 use pool::{Cut, Pool, PutFault};
@@ -77,7 +77,7 @@ impl<'a, K: Frame + PartialEq> Blocks<'a, K> {
         let start = first.len.saturating_sub(2).min(self.frames.len());
         let behind = &self.frames[start..];
         let part = &behind[..behind.len().min(4)];
-        let mut buffer = Vec::from_slice(rt.alloc(), part)?;
+        let mut buffer = Vec::from_slice(rt.alloc(), &self.frames[..part.len()])?;
         let done = read_row(store, row, start, buffer.as_mut_slice()).is_ok();
         let told = sameness(done && buffer.as_slice() == part);
         let count = part.len();
@@ -93,7 +93,7 @@ impl<'a, K: Frame + PartialEq> Blocks<'a, K> {
         let numbers = self
             .put(heap, &mut pool, cuts.as_slice())
             .ok()
-            .context("the take does not fit the image")?;
+            .context(NO_ROOM)?;
         let row = self.named(heap, numbers.as_slice())?;
         let row = row.as_slice();
         pool.hold(row);
@@ -115,6 +115,7 @@ impl<'a, K: Frame + PartialEq> Blocks<'a, K> {
         let cuts = self.cuts(heap)?;
         let mut pool = self.pool(heap, Some(2))?;
         let before = pool.store.free();
+        // 0 where the store told no fault.
         let code = match self.put(heap, &mut pool, cuts.as_slice()) {
             Err(PutFault::Store(fault)) => fault.error.code(),
             Ok(_) | Err(PutFault::NoMemory) => 0,

@@ -7,6 +7,8 @@ use std::fs;
 use stores::{Store, Tripping};
 
 const FILE: &str = "chapter.image";
+// What is told where a put is refused: alone, without the store's fault.
+pub const NO_ROOM: &str = "the take does not fit the image";
 
 // How it is told whether two things are the same.
 pub fn sameness(same: bool) -> &'static str {
@@ -34,6 +36,7 @@ fn show_trip<S: Store + Drop>(
     room: S::Kind,
 ) -> anyhow::Result<S> {
     let mut tripping = Tripping::new(store, Some(1));
+    // A list of one: no proof says that an array of a kind that is not known here fits in memory.
     let mut buffer = vec![in rt.alloc(); room; 1]?;
     let buffer = buffer.as_mut_slice();
     try_read(rt, &mut tripping, number, buffer)?;
@@ -63,12 +66,7 @@ impl<'a, K: Frame + PartialEq> Blocks<'a, K> {
     ) -> anyhow::Result<Vec<usize>> {
         self.frames
             .chunks(self.limit)
-            .map(|part| -> anyhow::Result<usize> {
-                store
-                    .put(part)
-                    .ok()
-                    .context("the take does not fit the image")
-            })
+            .map(|part| -> anyhow::Result<usize> { store.put(part).ok().context(NO_ROOM) })
             .try_collect(heap)
     }
 
@@ -113,8 +111,10 @@ impl<'a, K: Frame + PartialEq> Blocks<'a, K> {
         let free = store.free();
         println!(rt; "released: {free} numbers free")?;
         let numbers = self.put_all(heap, &mut store)?;
-        let number = numbers.first().copied().unwrap_or(0);
-        let store = show_trip(rt, store, number, *first)?;
+        let Some(number) = numbers.first() else {
+            return Ok(());
+        };
+        let store = show_trip(rt, store, *number, *first)?;
         write_file(rt, store.into_bytes().as_slice())
     }
 }

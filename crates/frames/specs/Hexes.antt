@@ -1,9 +1,9 @@
 -- Hexadecimal digits: what is written is read again, and what is read was so written. Assumes nothing.
-use Rattle.std.specs.Prelude.{◌≡◌, ℕ, zero, suc, ◌+◌, ◌*◌, ◌/◌, ◌%◌, ◌^◌, ◌<◌, List, [], ◌∷◌, ◌++◌, length, Some}
-use Rattle.std.proofs.Common.{sym, ap, subst, ◌∙◌, append_assoc, add-zero, pow-suc, mod-lt, div-add-mod', arith, lit<}
-use Rattle.std.proofs.Math.Nat.{pow-zero}
+use Rattle.std.specs.Prelude.{◌≡◌, ℕ, zero, suc, ◌+◌, ◌*◌, ◌/◌, ◌%◌, ◌^◌, ◌<◌, ◌≤◌, List, [], ◌∷◌, ◌++◌, length, drop, Some, slice_index, slice_set}
+use Rattle.std.proofs.Common.{sym, ap, subst, ◌∙◌, append_assoc, add-zero, pow-suc, mod-lt, div-add-mod', add-one, arith, lit<, lit≤, drop-cons}
+use Rattle.std.proofs.Math.Nat.{pow-zero, pow-le-pow_right}
 use Rattle.std.proofs.Math.Arith.{digits_lt, digits_div, digits_mod}
-use Rattle.std.proofs.lemmas.List.{append-nil}
+use Rattle.std.proofs.lemmas.List.{append-nil, drop-set}
 use Rattle.std.proofs.lemmas.Nat.{div_below}
 use Rattle.std.proofs.lemmas.Option.{option_and_then_some}
 use Rattle.std.specs.Option.{option_and_then}
@@ -62,3 +62,25 @@ read_spelled text m e =
     let all = hex_spelled 0 0 m text (omega (arith, pow-zero 16)) e in
     let turn : 0 + length text ≡ length text = omega arith in
     (subst (λ j. m < 16 ^ j) turn all.0, ap (λ j. hexed j m) (sym turn) ∙ all.1)
+
+-- one digit more is read, or what is none
+pub read_on : (text : List ℕ) (i n : ℕ) → i < length text → hex_number n (drop i text) ≡ option_and_then (λ d. hex_number (n * 16 + d) (drop (i + 1) text)) (hex_digit (slice_index text i))
+read_on text i n within = ap (hex_number n) (drop-cons text i 0 within ∙ ap (λ j. slice_index text i ∷ drop j text) (sym (add-one i)))
+
+-- the number of fewer than eight digits has room for one more
+pub few_digits : (i n : ℕ) → i < 8 → n < 16 ^ i → n < 2 ^ 28
+few_digits i n few below =
+    let le : i ≤ 7 = omega arith in
+    let bound : 16 ^ i ≤ 16 ^ 7 = pow-le-pow_right (lit≤ tt) le in
+    omega arith
+
+-- the bound on the digits so far, with one digit more
+pub below_more : (i n d : ℕ) → n < 16 ^ i → d < 16 → n * 16 + d < 16 ^ (i + 1)
+below_more i n d below small = subst (λ m. n * 16 + d < m) (sym (ap (λ m. 16 ^ m) (add-one i) ∙ pow-suc 16 i)) (digits_lt below small)
+
+-- one digit more is written, in front of what stands
+pub write_more : (j rest d : ℕ) (out w : List ℕ) → j < length out → d ≡ hex_char (rest % 16) → hexed (suc j) rest ++ drop (suc j) out ≡ w → hexed j (rest / 16) ++ drop j (slice_set out j d) ≡ w
+write_more j rest d out w within is before =
+    ap (λ xs. hexed j (rest / 16) ++ xs) (drop-set out j d within ∙ ap (λ x. x ∷ drop (j + 1) out) is ∙ ap (λ m. hex_char (rest % 16) ∷ drop m out) (add-one j))
+    ∙ sym (append_assoc (hexed j (rest / 16)) (hex_char (rest % 16) ∷ []) (drop (suc j) out))
+    ∙ before

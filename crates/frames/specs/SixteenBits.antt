@@ -8,7 +8,7 @@ use Rattle.std.specs.Int.{w16}
 use Rattle.std.specs.Option.{option_map}
 use Rattle.std.specs.List.{AllByRecursion}
 use Rattle.std.proofs.ByRecursion.{All-take, All-drop}
-use Rattle.std.proofs.lemmas.Bool.{eqb-true}
+use Rattle.std.proofs.lemmas.Bool.{cond-true, eqb-true, eq-eqb}
 use Rattle.std.proofs.lemmas.Int.{of_z-to_z}
 use Rattle.frames.specs.Twos.{unsigned}
 use Rattle.frames.specs.Digits.{number}
@@ -30,7 +30,7 @@ cond_sel true x y = refl
 cond_sel false x y = refl
 
 -- the sample of 16 bits is what the language's cast computes
-bits_cast : (n : ℕ) → n < 2 ^ 16 → (mono_of_bits n).value ≡ to_z w16 n
+pub bits_cast : (n : ℕ) → n < 2 ^ 16 → (mono_of_bits n).value ≡ to_z w16 n
 bits_cast n small = wrapped (2 ^ 15) n small ∙ cond_sel (nat_lt n (2 ^ 15)) (pos n) (negsuc (2 ^ 16 - suc n))
 
 -- a frame whose value the language casts from 16 bits is the one that they stand for
@@ -44,6 +44,16 @@ two_bytes [] l all = absurd (omega arith)
 two_bytes (a ∷ []) l all = absurd (omega arith)
 two_bytes (a ∷ b ∷ []) l all = (omega arith, omega arith)
 two_bytes (a ∷ b ∷ c ∷ bs) l all = absurd (omega arith)
+
+-- what two bytes make
+pub bytes_cast : (bs : List ℕ) → length bs ≡ 2 → AllByRecursion (λ b. b < 256) bs → (mono_from bs).value ≡ to_z w16 (slice_index bs 0 + slice_index bs 1 * 256)
+bytes_cast bs l all =
+    let two = two_bytes bs l all in
+    bits_cast (number 256 bs) two.0 ∙ ap (to_z w16) (sym two.1)
+
+-- the frame that bytes of the right number give
+pub bytes_read : (bs : List ℕ) (x : Mono) → length bs ≡ 2 → Some x ≡ cond (length bs == 2) (Some (mono_from bs)) None → x ≡ mono_from bs
+bytes_read bs x l read = let e = cond-true _ (Some (mono_from bs)) None (eq-eqb (length bs) 2 l) in cc
 
 pub mono_decodes : (x : Mono) → mono_from (mono_bytes x) ≡ x
 mono_decodes x = same_mono _ x (sample_decodes (2 ^ 15) 2 x.value refl x.fits)

@@ -1,6 +1,6 @@
-// Numbers of 16 bits as four hexadecimal digits 0 to 9 and A to F, highest first.
+// Numbers as hexadecimal digits 0 to 9 and A to F, highest first.
 // By hand: the library reads small letters too, and its formatter may fail.
-ghost use Rattle.std.specs.Prelude.{◌≡◌, ◌<◌};
+ghost use Rattle.std.specs.Prelude.{◌≡◌, ◌<◌, ◌≤◌, length};
 ghost use Rattle.frames.specs.Hex.{hex_char, hex_digit, hexed, hex_number};
 
 // The digit of a number below sixteen.
@@ -26,27 +26,25 @@ fn digit_value(byte: u8) -> Option<u8>
     }
 }
 
-// The digits of `number`.
-pub(crate) fn to_hex(number: u16) -> [u8; 4]
-    ensures { result ≡ hexed 4 number }
+// Fills `out` with the lowest digits of `number`.
+pub(crate) fn write_hex(number: u32, out: &mut [u8])
+    ensures { out.new ≡ hexed (length out.old) number }
 {
-    let [high, low] = number.to_be_bytes();
-    [
-        digit_char(high / 16),
-        digit_char(high % 16),
-        digit_char(low / 16),
-        digit_char(low % 16),
-    ]
+    if let Some((last, front)) = out.split_last_mut() {
+        *last = digit_char((number % 16) as u8);
+        write_hex(number / 16, front);
+    }
 }
 
-// The number that `text` writes, or `None` where a byte is no digit.
-pub(crate) fn from_hex(text: &[u8; 4]) -> Option<u16>
+// The number that at most eight digits write, or `None` where a byte is no digit.
+pub(crate) fn read_hex(text: &[u8]) -> Option<u32>
+    requires { length text.now ≤ 8 }
     ensures { result ≡ hex_number 0 text.now }
 {
-    let mut number = 0;
+    let mut number: u32 = 0;
     for byte in text {
         let digit = digit_value(*byte)?;
-        number = number * 16 + u16::from(digit);
+        number = number * 16 + u32::from(digit);
     }
     Some(number)
 }

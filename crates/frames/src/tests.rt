@@ -5,7 +5,7 @@ use crate::stereo::Stereo;
 
 const ENDS: [i16; 6] = [-32768, -32767, -2, 0, 1, 32767];
 
-// Whether a frame comes back from its bytes and from its line, in buffers of four and of eight.
+// A frame as it comes back from its bytes and from its line, in buffers of four and of eight.
 fn comes_back<K: Frame>(frame: K, width: usize) -> Option<(K, K)> {
     let mut bytes = [0u8; 4];
     let mut line = [0u8; 8];

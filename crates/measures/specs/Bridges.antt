@@ -17,7 +17,7 @@ pub same_clip_run : (x y : ClipRun) → run_of x ≡ run_of y → x ≡ y
 same_clip_run x y e =
     subst (λ (r : Run). (s : SoundRun r) → x ≡ clip_run_from r s) e (λ s. ap (clip_run_from (run_of x)) (sound_prop _ _ _ _ x.sound s)) y.sound
 
-run_path : {c h t b c' h' t' b' : ℕ} → c ≡ c' → h ≡ h' → t ≡ t' → b ≡ b' → run c h t b ≡ run c' h' t' b'
+pub run_path : {c h t b c' h' t' b' : ℕ} → c ≡ c' → h ≡ h' → t ≡ t' → b ≡ b' → run c h t b ≡ run c' h' t' b'
 run_path p q r s = cc
 
 pub capped_over : (r : Run) → 2 ^ 30 < r.count → capped r ≡ longest

@@ -1,4 +1,5 @@
-// The three measures of a list of frames, with what they mean of it.
+// The three measures of a list of frames, with what they mean of it: three names for one fold, since each says
+// something else of the list.
 ghost use Rattle.std.specs.Prelude.{◌≡◌, ◌^◌, ◌≤◌, min, length, sum_by};
 ghost use Rattle.measures.specs.Measured.{measured};
 ghost use Rattle.measures.specs.Extents.{frame_extent, no_extent, wider};

@@ -1,5 +1,6 @@
 -- What a pool knows of its numbers: a list of counts and a list of measures, with one of each for a number.
-use Rattle.std.specs.Prelude.{◌≡◌, ℕ, List, map, vec_capacity}
+use Rattle.std.specs.Prelude.{◌≡◌, ℕ, List, map}
+use Rattle.std.specs.Vec.{SameBlock}
 use Rattle.measures.specs.Summaries.{no_summary}
 use Rattle.measures.specs.declared.summary.Summary.{Summary}
 use Rattle.pool.specs.declared.account.Account.{Account}
@@ -18,10 +19,10 @@ module _ {S : Type 0} where
   abbrev pub kept_of : Pool S → List Summary
   kept_of pool = map (λ (a : Account). a.kept) pool.accounts.items
 
-  -- the counts are as they were, and so is the room for accounts
+  -- the counts are as they were, and the accounts lie where they lay, with the same room
   abbrev pub SameCounts : Pool S → Pool S → Type 0
-  SameCounts old new = (counts_of new ≡ counts_of old) × (vec_capacity new.accounts ≡ vec_capacity old.accounts)
+  SameCounts old new = (counts_of new ≡ counts_of old) × SameBlock old.accounts new.accounts
 
   -- and so with what is kept
   abbrev pub SameKept : Pool S → Pool S → Type 0
-  SameKept old new = (kept_of new ≡ kept_of old) × (vec_capacity new.accounts ≡ vec_capacity old.accounts)
+  SameKept old new = (kept_of new ≡ kept_of old) × SameBlock old.accounts new.accounts

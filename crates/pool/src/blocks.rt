@@ -19,7 +19,7 @@ impl<S: Store> Pool<S> {
     // Puts a block for each cut of the joined stretches, from left to right, and leaves their numbers
     // in `numbers`; where the memory for these is wanting, or the store refuses or fails, none is put.
     // The frames pass through the work buffer, so that no memory is asked for them: what it holds
-    // afterwards is not said.
+    // afterwards is not said. Where `numbers` has room, none is asked for at all.
     pub fn put_blocks(
         &mut self,
         stretches: &[Stretch<'_, S::Kind>],

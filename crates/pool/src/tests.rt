@@ -30,11 +30,7 @@ fn pool(heap: Global, trip_at: Option<u64>) -> Result<Pool<Tripping<MemoryStore<
 
 // The frames 0 to 17.
 fn take(heap: Global) -> Result<Vec<Mono>, Fail> {
-    let mut frames = Vec::new(heap);
-    for value in 0i16..18 {
-        frames.push(Mono::new(value))?;
-    }
-    Ok(frames)
+    Ok((0i16..18).map(Mono::new).collect(heap)?)
 }
 
 // Puts a block for each cut of the stretches, by a work buffer like `room`.

@@ -11,4 +11,5 @@ mod walking;
 pub use fault::ReadFault;
 pub use gathering::gather;
 pub use row::read_row;
+pub use rows::row_len;
 pub use stretch::Stretch;

@@ -19,8 +19,8 @@ pub(crate) fn walk<S: Store, P: Part<S>>(
     ensures told { AllTied P.Part (S.Store.meaning store.old) parts.now → start + length buffer.old ≤ length (joined P.Part (S.Store.meaning store.old) parts.now) → Walks P.Part (S.Store.meaning store.old) parts.now start buffer.old result buffer.new (S.Store.meaning store.new) }
 {
     let mut skip = start;
-    // The frames that are filled are counted: of a slice that a loop splits again and again, no
-    // proof says what the whole of it ends as.
+    // The frames that are filled are counted: where a loop splits the buffer again and again, as was
+    // tried, no proof says what the whole of it ends as.
     let mut done: usize = 0;
     for part in parts {
         let left = buffer.len() - done;

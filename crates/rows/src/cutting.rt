@@ -36,6 +36,7 @@ pub fn pieces_of(heap: Global, row: &[Entry], span: Range<usize>) -> Result<Vec<
     ensures refused { OnErr result (1 ≤ length row.now) }
 {
     let mut out = Vec::new(heap);
+    // Both run down to the start of the entry at hand: a `scan` would carry them alike.
     let mut start = span.start;
     let mut end = span.end;
     for entry in row {

@@ -1,4 +1,4 @@
-// How long a list of entries is.
+// How many frames the blocks of a list of entries have.
 ghost use Rattle.std.specs.Prelude.{◌≡◌, ◌-◌, ◌^◌, min};
 ghost use Rattle.rows.specs.Entries.{total};
 

@@ -7,6 +7,7 @@ use crate::entry::Entry;
 use crate::length::row_len;
 use std::alloc::Global;
 
+// Clauses name the vector, which is what a row is tried from and gives back: a model would show the items alone.
 #[derive(Drop)]
 pub struct Row {
     entries: Vec<Entry>,

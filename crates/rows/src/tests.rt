@@ -108,7 +108,7 @@ fn at_most_64_entries(rt: HostRuntime) -> Result<(), Fail> {
     let full = vec![in rt.alloc(); entry; 64]?;
     let over = vec![in rt.alloc(); entry; 65]?;
     assert!(rt; Row::try_from(over).is_err());
-    let row = Row::try_from(full).ok().ok_or("refused")?;
+    let row = Row::try_from(full)?;
     assert!(rt; row.entries().len() == 64);
     assert_eq!(rt; row.len(), LONGEST);
     Ok(())

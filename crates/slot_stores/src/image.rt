@@ -65,7 +65,8 @@ impl<K: Frame> ImageStore<K> {
         6 + K::width() * self.limit
     }
 
-    // Where a slot begins.
+    // Where a slot begins. A place and no slice: what is written through a slice that a function lends
+    // would need a promise of its own.
     fn slot_start(&self, number: usize) -> usize
         requires { number < image_slots K.Frame.wide self.now.limit self.now.bytes.items }
         ensures value { result ≡ number * slot_bytes K.Frame.wide self.now.limit }

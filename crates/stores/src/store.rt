@@ -30,8 +30,8 @@ pub trait Store {
     fn is_ailing(&self) -> bool
         ensures { result ≡ (meaning self.now).ailing };
 
-    // How many frames the block of a number has, 0 where there is none: no block is empty, so that
-    // an Option would tell no more.
+    // How many frames the block of a number has, 0 where there is none: the meaning has an empty list
+    // there, and this is its length.
     fn block_len(&self, number: usize) -> usize
         ensures { result ≡ length (block (meaning self.now) number) };
 

@@ -3,7 +3,7 @@ ghost use Rattle.std.specs.Prelude.{◌≡◌, ◌≤◌, length};
 ghost use Rattle.std.specs.Iterator.{YieldsFirstRef, at_most};
 ghost use Rattle.takes.specs.Lines.{first_line, lines_left};
 
-const LINE_FEED: u8 = 10;
+const LINE_FEED: u8 = b'\n';
 
 // Where the first line of a text ends: at its first line feed, or at the text's end.
 fn line_end(text: &[u8]) -> usize
@@ -15,7 +15,8 @@ fn line_end(text: &[u8]) -> usize
         .unwrap_or(text.len())
 }
 
-// What is left of a text as its lines are taken, from the front on.
+// What is left of a text as its lines are taken, from the front on. The library's `split` would give
+// an empty line behind the last feed.
 #[derive(Drop)]
 pub(crate) struct Lines<'a> {
     rest: &'a [u8],

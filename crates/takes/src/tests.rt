@@ -16,9 +16,7 @@ fn kinds(rt: HostRuntime) {
 #[test]
 fn frames_and_other_lines(rt: HostRuntime) -> Result<(), Fail> {
     let take: Take<Mono> = read_take(rt.alloc(), b"FFFE\n\n001\n0003\r\n0005")?;
-    let frames = take.frames.as_slice();
-    assert!(rt; frames.len() == 2);
-    assert_eq!(rt; (frames[0].value, frames[1].value), (-2, 5));
+    assert!(rt; take.frames.as_slice() == [Mono::new(-2), Mono::new(5)].as_slice());
     assert!(rt; take.unread.as_slice() == [2, 3, 4].as_slice());
     Ok(())
 }

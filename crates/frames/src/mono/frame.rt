@@ -1,23 +1,13 @@
 // Mono frames as a kind of frame: two bytes, low byte first, and four digits.
 ghost use Rattle.std.specs.Prelude.{◌^◌};
-ghost use Rattle.frames.specs.Written.{Written};
 ghost use Rattle.frames.specs.Samples.{square, at_end};
 ghost use Rattle.frames.specs.Monos.{mono_bytes, mono_from, mono_line, mono_parsed, mono_narrow};
 ghost use Rattle.frames.specs.SixteenBits.{mono_decodes, mono_encodes, mono_parses, mono_spells, mono_bounded};
 ghost use Rattle.std.proofs.Common.{arith, rules};
 
 use crate::frame::{Frame, TooShort};
-use crate::hex::{from_hex, to_hex};
+use crate::hex::{read_hex, write_hex};
 use crate::mono::Mono;
-
-// Writes the bytes at the front of `out`.
-fn write_front<const N: usize>(bytes: [u8; N], out: &mut [u8]) -> Result<(), TooShort>
-    ensures { Written bytes.entry out.old out.new result }
-{
-    let front = out.first_chunk_mut::<N>().ok_or(TooShort)?;
-    *front = bytes;
-    Ok(())
-}
 
 impl Frame for Mono {
     ghost wide = { 2 };
@@ -63,7 +53,9 @@ impl Frame for Mono {
     }
 
     fn write_bytes(self, out: &mut [u8]) -> Result<(), TooShort> {
-        write_front(self.value.to_le_bytes(), out)
+        let bytes = out.first_chunk_mut::<2>().ok_or(TooShort)?;
+        *bytes = self.value.to_le_bytes();
+        Ok(())
     }
 
     fn read_bytes(bytes: &[u8]) -> Option<Mono> {
@@ -72,12 +64,14 @@ impl Frame for Mono {
     }
 
     fn write_line(self, out: &mut [u8]) -> Result<(), TooShort> {
-        write_front(to_hex(self.value.cast_unsigned()), out)
+        let line = out.first_chunk_mut::<4>().ok_or(TooShort)?;
+        write_hex(u32::from(self.value.cast_unsigned()), line);
+        Ok(())
     }
 
     fn read_line(text: &[u8]) -> Option<Mono> {
-        let bits = from_hex(text.as_array()?)?;
-        Some(Mono::new(bits.cast_signed()))
+        let bits = read_hex(text.as_array::<4>()?)?;
+        Some(Mono::new((bits as u16).cast_signed()))
     }
 
     fn low(self) -> i32 {

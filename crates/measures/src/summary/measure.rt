@@ -18,6 +18,7 @@ impl<K: Frame> Measure<K> for Summary {
 
     ghost laws = { summary_laws };
 
+    // Each of the three calls its own function of the parts, which differ in type: there is no list to go over.
     fn of(frame: K) -> Summary {
         Summary {
             extent: <Extent as Measure<K>>::of(frame),

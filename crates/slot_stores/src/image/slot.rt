@@ -52,13 +52,11 @@ pub(crate) fn read_frames<K: Frame>(bytes: &[u8], buffer: &mut [K])
     ensures { buffer.new ≡ decoded K.Frame.wide K.Frame.decoded (length buffer.old) bytes.now }
 {
     let width = K::width();
+    // The rest is split by hand: a proof does not learn what is written through a chain of `iter_mut`.
     let mut rest = bytes;
     for place in buffer.iter_mut() {
         let (part, after) = rest.split_at(width);
-        let Some(frame) = K::read_bytes(part) else {
-            unreachable()
-        };
-        *place = frame;
+        *place = K::read_bytes(part).unwrap();
         rest = after;
     }
 }

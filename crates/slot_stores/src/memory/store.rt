@@ -33,7 +33,8 @@ impl<K: Frame> MemoryStore<K> {
         frames
     }
 
-    // Where a slot begins.
+    // Where a slot begins. The image store's slots have another size: one function for both would be
+    // told what either knows of itself.
     fn slot_start(&self, number: usize) -> usize
         requires { number < self.now.slots }
         ensures value { result ≡ number * self.now.limit }
@@ -85,7 +86,7 @@ impl<K: Frame> Store for MemoryStore<K> {
     fn read(&mut self, number: usize, offset: usize, buffer: &mut [K]) -> Result<(), StoreFault>
         ensures promised { Reads (memory self.old) number offset buffer.old result buffer.new (memory self.new) }
         ensures succeeds { refusal_of_read (memory self.old) number offset (length buffer.old) ≡ None → is_ok result ≡ true }
-        ensures frames { self.new.frames ≡ self.old.frames }
+        ensures frames { self.new ≡ self.old }
     {
         self.check_read(number, offset, buffer.len())
             .map_err(|error| error.at(number))?;
@@ -107,6 +108,6 @@ impl<K: Frame> Store for MemoryStore<K> {
 
     fn rearm(&mut self)
         ensures promised { memory self.new ≡ well (memory self.old) }
-        ensures frames { self.new.frames ≡ self.old.frames }
+        ensures frames { self.new ≡ self.old }
     {}
 }

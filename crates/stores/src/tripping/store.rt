@@ -11,6 +11,7 @@ use crate::fault::{StoreError, StoreFault};
 use crate::store::Store;
 use crate::tripping::Tripping;
 
+// What stays as it was is said field by field: a name for one field's staying would be no shorter.
 impl<S: Store> Tripping<S> {
     // Counts one put or read, and says whether it is the one that fails.
     fn trips(&mut self) -> bool

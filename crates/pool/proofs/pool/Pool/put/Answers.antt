@@ -18,7 +18,7 @@ returns-in-Some g c =
     let written = map-set (λ (x : Account). x.kept) accounts n (record { count = a.count; kept = sum }) ∙ ap (set (kept_of pool) n) c.measure_of-account.ensures.value in
     record {
       store = puts;
-      counts = (counts_stay accounts n a c.in-Some.ensures.item.3 sum, refl);
+      counts = (counts_stay accounts n a c.in-Some.ensures.item.3 sum, (refl, (refl, refl)));
       kept = written;
       keeps = put_keeps (frame_summary g.S.Kind.Frame) (g.S.Store.meaning pool.store) (g.S.Store.meaning c.put.new.self) (kept_of pool) _ c.args.frames.now (Ok n) puts written;
     }

@@ -16,7 +16,7 @@ loop-cut-init g c =
       len = c.reserve.ensures.len ∙ c.clear.ensures.len;
       room = omega (arith, c.in_ok-reserve.ensures.ok, c.clear.ensures.len);
       parts = ([], refl, subst P (sym none) putting_none, λ sound fits. refl);
-      counts = (refl, refl);
+      counts = (refl, (refl, (refl, refl)));
       keeps = λ before. before;
     }
 
@@ -32,7 +32,7 @@ loop-cut-preserved g c =
       len = omega arith;
       room = omega arith;
       parts = (next.parts, next.count, subst P (sym c.push_reserved.ensures.items) next.putting, next.right);
-      counts = (told.counts.0 ∙ inv.counts.0, told.counts.1 ∙ inv.counts.1);
+      counts = (told.counts.0 ∙ inv.counts.0, (told.counts.1.0 ∙ inv.counts.1.0, (told.counts.1.1.0 ∙ inv.counts.1.1.0, told.counts.1.1.1 ∙ inv.counts.1.1.1)));
       keeps = λ before. told.keeps (inv.keeps before);
     }
 

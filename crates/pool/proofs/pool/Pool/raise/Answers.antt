@@ -4,7 +4,7 @@ use Rattle.pool.proofs.pool.Pool.raise.Goals as goal
 
 pub returns-in-Some-clause-kept : goal.returns-in-Some-clause-kept
 returns-in-Some-clause-kept g c =
-    (kept_stay (vec_items c.args.self.now.accounts) c.args.number c.in-Some.account.now c.in-Some.ensures.item.3 c.saturating_add-account.result, refl)
+    (kept_stay (vec_items c.args.self.now.accounts) c.args.number c.in-Some.account.now c.in-Some.ensures.item.3 c.saturating_add-account.result, (refl, (refl, refl)))
 
 pub returns-in-Some-clause-counts : goal.returns-in-Some-clause-counts
 returns-in-Some-clause-counts g c =

@@ -1,6 +1,6 @@
 use Rattle.std.proofs.Common.{◌≡◌, ◌^◌, ◌<◌, drop}
 use Rattle.frames.specs.Hex.{hex_number}
-use Rattle.frames.proofs.hex.from_hex.Given as goal
+use Rattle.frames.proofs.hex.read_hex.Given as goal
 
 abbrev pub invariant-loop-byte : goal.invariant-loop-byte
 invariant-loop-byte l =
