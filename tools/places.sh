@@ -3,7 +3,7 @@
 # A line is a place to read, not a verdict; docs/DESIGN-PASS.md says what was made of each. Call: tools/places.sh [FOLDER]
 set -euo pipefail
 cd "${1:-$(dirname "$0")/..}"
-mapfile -t src < <(find crates -path '*/src/*' -name '*.rt' | sort)
+mapfile -t src < <(find crates -name out -prune -o -path '*/src/*' -name '*.rt' -print | sort)
 
 list() {
     local found

@@ -115,7 +115,7 @@ impl<'a, K: Frame + PartialEq> Blocks<'a, K> {
         let cuts = self.cuts(heap)?;
         let mut pool = self.pool(heap, Some(2))?;
         let before = pool.store.free();
-        // 0 where the store told no fault.
+        // 0 where the store told no fault: the line that is printed has a number there.
         let code = match self.put(heap, &mut pool, cuts.as_slice()) {
             Err(PutFault::Store(fault)) => fault.error.code(),
             Ok(_) | Err(PutFault::NoMemory) => 0,

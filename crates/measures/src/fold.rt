@@ -10,6 +10,7 @@ pub fn measure_of<K: Frame, M: Measure<K>>(frames: &[K]) -> M
     ensures value { result ≡ measured M.Measure.worth M.Measure.joined M.Measure.neutral frames.now }
     ensures parts { PartsJoined M.Measure.worth M.Measure.joined M.Measure.neutral frames.now result }
 {
+    // A loop: of a `fold` over a bound's functions, as was tried, the check does not find what it gives.
     let mut total = M::none();
     for frame in frames {
         total = total.join(M::of(*frame));

@@ -10,6 +10,7 @@ use frames::Frame;
 use rows::Entry;
 use stores::Store;
 
+// That the store and the number of accounts stay is said as it is: a name for one field's staying would be no shorter.
 impl<S: Store> Pool<S> {
     // How many entries name the number.
     pub fn count(&self, number: usize) -> u32

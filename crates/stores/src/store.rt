@@ -2,7 +2,9 @@
 // block limit that never change, a health, and for each number nothing or a block of frames. Every
 // promise speaks of the meaning before and after a call, so what stands above is proved once for
 // every store.
-ghost use Rattle.std.specs.Prelude.{◌≡◌, length};
+ghost use Rattle.std.specs.Prelude.{◌≡◌, ◌<◌, length, Some, MatchResult};
+ghost use Rattle.stores.specs.declared.fault.StoreError.TheVariants.{NoBlock};
+ghost use Rattle.stores.specs.Faults.{fault};
 ghost use Rattle.stores.specs.Meaning.{Meaning, WithinLimit, capacity, block, vacant, lowest, well};
 ghost use Rattle.stores.specs.Promise.{Checks, Puts, Reads, Releases, placed, refusal_of_put, refusal_of_read};
 
@@ -88,6 +90,16 @@ pub trait Store {
         }
         if count == 0 {
             return Err(StoreError::BadLength);
+        }
+        Ok(())
+    }
+
+    // Refuses a release of a number that has no block, by the fault that tells so.
+    fn check_release(&self, number: usize) -> Result<(), StoreFault>
+        ensures { MatchResult result (λ _. 0 < length (block (meaning self.now) number)) (λ f. (length (block (meaning self.now) number) ≡ 0) × (f ≡ fault NoBlock (Some number))) }
+    {
+        if self.block_len(number) == 0 {
+            return Err(StoreError::NoBlock.at(number));
         }
         Ok(())
     }

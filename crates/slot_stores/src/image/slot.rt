@@ -39,7 +39,7 @@ pub(crate) fn write_frames<K: Frame>(body: &mut [u8], frames: &[K])
     ensures { body.new ≡ flat_map K.Frame.encoded frames.now }
 {
     let width = K::width();
-    // By number, since a proof does not learn what is written through `chunks_exact_mut`.
+    // By number: where a loop splits the body again and again, as was tried, no proof says what it ends as.
     for (i, frame) in frames.iter().enumerate() {
         let at = i * width;
         let _ = frame.write_bytes(&mut body[at..at + width]);

@@ -9,7 +9,7 @@ ghost use Rattle.slot_stores.specs.InImage.{image, image_fitting, PutBytes, Rele
 use crate::image::ImageStore;
 use crate::image::slot::{block_length, read_frames, write_slot};
 use frames::Frame;
-use stores::{Store, StoreError, StoreFault};
+use stores::{Store, StoreFault};
 
 impl<K: Frame> Store for ImageStore<K> {
     type Kind = K;
@@ -68,9 +68,7 @@ impl<K: Frame> Store for ImageStore<K> {
         ensures promised { Releases (image K.Frame self.old) number result (image K.Frame self.new) }
         ensures bytes { ReleaseBytes K.Frame self.old number result self.new }
     {
-        if self.block_len(number) == 0 {
-            return Err(StoreError::NoBlock.at(number));
-        }
+        self.check_release(number)?;
         let at = self.slot_start(number);
         self.bytes[at..at + 4].fill(0);
         Ok(())

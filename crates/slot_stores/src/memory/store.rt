@@ -8,7 +8,7 @@ ghost use Rattle.slot_stores.specs.Memory.{memory, memory_fitting, PutFrames};
 use crate::memory::MemoryStore;
 use crate::slots::slot_count;
 use frames::Frame;
-use stores::{Store, StoreError, StoreFault};
+use stores::{Store, StoreFault};
 
 impl<K: Frame> MemoryStore<K> {
     // A store with all numbers free, in as many slots of `limit` frames as there are whole.
@@ -99,9 +99,7 @@ impl<K: Frame> Store for MemoryStore<K> {
         ensures promised { Releases (memory self.old) number result (memory self.new) }
         ensures frames { self.new.frames ≡ self.old.frames }
     {
-        if self.block_len(number) == 0 {
-            return Err(StoreError::NoBlock.at(number));
-        }
+        self.check_release(number)?;
         self.lengths[number] = 0;
         Ok(())
     }

@@ -9,7 +9,7 @@ use Rattle.slot_stores.proofs.image.store.ImageStoreStore.release.Goals as goal
 pub slot_start-at-requires : goal.slot_start-at-requires
 slot_start-at-requires g c =
     let s = c.args.self.now in
-    taken_slot g.K.Frame.wide g.K.Frame.decoded s.limit (vec_items s.bytes) c.args.number (λ e. c.if-block_len-eq0.false (c.block_len.ensures ∙ e))
+    taken_slot g.K.Frame.wide g.K.Frame.decoded s.limit (vec_items s.bytes) c.args.number (λ e. omega (arith, c.in_ok-check_release.ensures, e))
 
 pub returns-clause-bytes : goal.returns-clause-bytes
 returns-clause-bytes g c = grind (arith, common_steps)
@@ -20,5 +20,5 @@ returns-clause-promised g c =
     let xs = vec_items s.bytes in
     let w = g.K.Frame.wide in
     let dec = g.K.Frame.decoded in
-    let some : length (block (image g.K.Frame s) c.args.number) ≢ 0 = λ e. c.if-block_len-eq0.false (c.block_len.ensures ∙ e) in
-    (omega (arith, some), ap (imaged w dec s.limit) (returns-clause-bytes g c) ∙ image_freed w dec s.limit xs c.args.number (taken_slot w dec s.limit xs c.args.number some))
+    let some : length (block (image g.K.Frame s) c.args.number) ≢ 0 = λ e. omega (arith, c.in_ok-check_release.ensures, e) in
+    (c.in_ok-check_release.ensures, ap (imaged w dec s.limit) (returns-clause-bytes g c) ∙ image_freed w dec s.limit xs c.args.number (taken_slot w dec s.limit xs c.args.number some))
