@@ -1,5 +1,5 @@
 -- The entries of states, and sums over them: how many name a number is one such sum.
-use Rattle.std.specs.Prelude.{◌≡◌, ℕ, ◌+◌, ◌-◌, cond, List, [], ◌∷◌, map, length, drop, Some, None, vec_items, sum_by, Option, nat_lt, slice_index}
+use Rattle.std.specs.Prelude.{◌≡◌, ℕ, ◌-◌, cond, List, [], ◌∷◌, map, length, drop, Some, None, sum_by, Option, nat_lt, slice_index}
 use Rattle.rows.specs.declared.entry.Entry.{Entry}
 use Rattle.rows.specs.declared.row.Row.{Row}
 use Rattle.pool.specs.Counts.{once}
@@ -11,11 +11,11 @@ Rows = List (List Entry)
 
 -- the entries of a row
 abbrev pub entries_of : Row → List Entry
-entries_of r = vec_items r.entries
+entries_of r = r.entries.items
 
 -- the rows of a state
 abbrev pub contents : State → Rows
-contents s = map entries_of (vec_items s.rows)
+contents s = map entries_of (s.rows)
 
 -- five empty rows
 abbrev pub blank : Rows

@@ -1,32 +1,39 @@
 // The entries of a whole state, held and let go.
 ghost use Rattle.std.specs.Prelude.{◌≡◌, ℕ, ◌+◌, ◌-◌, ◌^◌, ◌<◌, vec_len, slice_index};
+ghost use Rattle.pool.specs.Accounts.{counts_of, SameKept};
 ghost use Rattle.pool.specs.Freed.{Freed};
+ghost use Rattle.pool.specs.Kept.{KeepsRight};
 ghost use Rattle.states.specs.Rows.{contents, names, weigh};
 
 use crate::state::State;
+use frames::Frame;
 use pool::Pool;
 use stores::Store;
 
 // Each entry of the state names its block once more.
+#[tactic(auto, using(crate::proofs::Sums::weigh_more))]
 pub fn hold_state<S: Store>(pool: &mut Pool<S>, state: &State)
     ensures store { pool.new.store ≡ pool.old.store }
     ensures kept { SameKept pool.old pool.new }
     ensures len { vec_len pool.new.accounts ≡ vec_len pool.old.accounts }
     ensures counts { (n : ℕ) → n < vec_len pool.old.accounts → slice_index (counts_of pool.old) n + weigh (names n) (contents state.now) < 2 ^ 32 → slice_index (counts_of pool.new) n ≡ slice_index (counts_of pool.old) n + weigh (names n) (contents state.now) }
+    ensures keeps { KeepsRight S.Kind.Frame S.Store.meaning pool.old pool.new }
 {
-    for number in 0..5 {
-        pool.hold(state.row(number));
+    for row in &state.rows {
+        pool.hold(row.entries());
     }
 }
 
 // No entry of the state names its block any more; a block that nothing names then is released.
+#[tactic(auto, using(crate::proofs::Sums::weigh_more))]
 pub fn let_go_state<S: Store>(pool: &mut Pool<S>, state: &State)
     ensures kept { SameKept pool.old pool.new }
     ensures len { vec_len pool.new.accounts ≡ vec_len pool.old.accounts }
     ensures counts { (n : ℕ) → slice_index (counts_of pool.new) n ≡ slice_index (counts_of pool.old) n - weigh (names n) (contents state.now) }
     ensures freed { Freed (S.Store.meaning pool.old.store) (counts_of pool.old) (S.Store.meaning pool.new.store) (counts_of pool.new) }
+    ensures keeps { KeepsRight S.Kind.Frame S.Store.meaning pool.old pool.new }
 {
-    for number in 0..5 {
-        pool.let_go(state.row(number));
+    for row in &state.rows {
+        pool.let_go(row.entries());
     }
 }

@@ -1,0 +1,67 @@
+// The rows of a state: five empty ones, copies, and one in the place of another.
+ghost use Rattle.std.specs.Prelude.{◌≡◌, ◌<◌, [], IfOk, slice_index_or, slice_set};
+ghost use Rattle.states.specs.Rows.{contents, entries_of, blank};
+
+use crate::state::State;
+use rows::{Entry, Row};
+use std::alloc::{AllocError, Global};
+
+impl State {
+    // Five empty rows, which take no memory.
+    pub fn empty(heap: Global) -> State
+        ensures { contents result ≡ blank }
+    {
+        State {
+            rows: [
+                Row::new(heap),
+                Row::new(heap),
+                Row::new(heap),
+                Row::new(heap),
+                Row::new(heap),
+            ],
+        }
+    }
+
+    // The same entries in rows of their own.
+    pub fn copied(&self, heap: Global) -> Result<State, AllocError>
+        ensures { IfOk result (λ s. contents s ≡ contents self.now) }
+    {
+        let [a, b, c, d, e] = &self.rows;
+        Ok(State {
+            rows: [
+                row_copied(a, heap)?,
+                row_copied(b, heap)?,
+                row_copied(c, heap)?,
+                row_copied(d, heap)?,
+                row_copied(e, heap)?,
+            ],
+        })
+    }
+
+    // The entries of a row; a row that the state does not have is empty.
+    pub fn row(&self, number: usize) -> &[Entry]
+        ensures { result.now ≡ slice_index_or (contents self.now) number [] }
+    {
+        self.rows.get(number).map_or(&[], |row| row.entries())
+    }
+
+    // Puts a row in the place of another, which is given back.
+    pub(crate) fn swap_row(&mut self, number: usize, row: Row) -> Row
+        requires { number < 5 }
+        ensures rows { contents self.new ≡ slice_set (contents self.old) number (entries_of row) }
+        ensures old { entries_of result ≡ slice_index_or (contents self.old) number [] }
+    {
+        std::mem::replace(&mut self.rows[number], row)
+    }
+}
+
+// The same entries in a row of its own.
+fn row_copied(row: &Row, heap: Global) -> Result<Row, AllocError>
+    ensures { IfOk result (λ r. entries_of r ≡ entries_of row.now) }
+{
+    let entries = Vec::from_slice(heap, row.entries())?;
+    let Ok(copy) = Row::try_from(entries) else {
+        unreachable!();
+    };
+    Ok(copy)
+}
