@@ -1,9 +1,11 @@
 // States of a project: five rows each, and what holding, dropping and changing them does to the counts of a pool.
 #![tactic(auto)]
 
+mod dropping;
 mod entries;
 mod holding;
 mod state;
 
+pub use dropping::{drop_oldest, keep_newest};
 pub use holding::{hold_state, let_go_state};
 pub use state::State;

@@ -1,30 +1,18 @@
 // States that go, with all that only they name.
 ghost use Rattle.std.specs.Prelude.{◌≡◌, ℕ, ◌≤◌, map, take, drop, vec_len, vec_capacity};
-ghost use Rattle.std.specs.List.{remove};
+ghost use Rattle.pool.specs.Accounts.{counts_of, SameKept};
 ghost use Rattle.pool.specs.Freed.{Freed};
+ghost use Rattle.pool.specs.Kept.{KeepsRight};
 ghost use Rattle.states.specs.Rows.{contents, newest, Shed};
 
 use crate::holding::let_go_state;
 use crate::state::State;
+use frames::Frame;
 use pool::Pool;
 use stores::Store;
 
-// Takes out the state at a place, if there is one.
-fn drop_at<S: Store>(pool: &mut Pool<S>, states: &mut Vec<State>, place: usize)
-    ensures items { states.new.items ≡ remove states.old.items place }
-    ensures capacity { vec_capacity states.new ≡ vec_capacity states.old }
-    ensures kept { SameKept pool.old pool.new }
-    ensures len { vec_len pool.new.accounts ≡ vec_len pool.old.accounts }
-    ensures counts { (n : ℕ) → Shed (counts_of pool.old) (map contents states.old.items) (counts_of pool.new) (map contents states.new.items) n }
-    ensures freed { Freed (S.Store.meaning pool.old.store) (counts_of pool.old) (S.Store.meaning pool.new.store) (counts_of pool.new) }
-{
-    if place < states.len() {
-        let state = states.remove(place);
-        let_go_state(pool, &state);
-    }
-}
-
 // Drops the oldest state, if there is one.
+#[tactic(auto, using(crate::proofs::Sums::weigh_first))]
 pub fn drop_oldest<S: Store>(pool: &mut Pool<S>, states: &mut Vec<State>)
     ensures items { states.new.items ≡ drop 1 states.old.items }
     ensures capacity { vec_capacity states.new ≡ vec_capacity states.old }
@@ -32,8 +20,12 @@ pub fn drop_oldest<S: Store>(pool: &mut Pool<S>, states: &mut Vec<State>)
     ensures len { vec_len pool.new.accounts ≡ vec_len pool.old.accounts }
     ensures counts { (n : ℕ) → Shed (counts_of pool.old) (map contents states.old.items) (counts_of pool.new) (map contents states.new.items) n }
     ensures freed { Freed (S.Store.meaning pool.old.store) (counts_of pool.old) (S.Store.meaning pool.new.store) (counts_of pool.new) }
+    ensures keeps { KeepsRight S.Kind.Frame S.Store.meaning pool.old pool.new }
 {
-    drop_at(pool, states, 0);
+    if !states.is_empty() {
+        let oldest = states.remove(0);
+        let_go_state(pool, &oldest);
+    }
 }
 
 // Keeps the first states, and drops the others, the last first.
@@ -44,10 +36,11 @@ fn drop_from<S: Store>(pool: &mut Pool<S>, states: &mut Vec<State>, keep: usize)
     ensures len { vec_len pool.new.accounts ≡ vec_len pool.old.accounts }
     ensures counts { (n : ℕ) → Shed (counts_of pool.old) (map contents states.old.items) (counts_of pool.new) (map contents states.new.items) n }
     ensures freed { Freed (S.Store.meaning pool.old.store) (counts_of pool.old) (S.Store.meaning pool.new.store) (counts_of pool.new) }
+    ensures keeps { KeepsRight S.Kind.Frame S.Store.meaning pool.old pool.new }
 {
     while states.len() > keep {
-        let last = states.len() - 1;
-        drop_at(pool, states, last);
+        let last = states.pop().unwrap();
+        let_go_state(pool, &last);
     }
 }
 
@@ -60,9 +53,10 @@ pub fn keep_newest<S: Store>(pool: &mut Pool<S>, states: &mut Vec<State>, keep: 
     ensures len { vec_len pool.new.accounts ≡ vec_len pool.old.accounts }
     ensures counts { (n : ℕ) → Shed (counts_of pool.old) (map contents states.old.items) (counts_of pool.new) (map contents states.new.items) n }
     ensures freed { Freed (S.Store.meaning pool.old.store) (counts_of pool.old) (S.Store.meaning pool.new.store) (counts_of pool.new) }
+    ensures keeps { KeepsRight S.Kind.Frame S.Store.meaning pool.old pool.new }
 {
     drop_from(pool, states, keep);
     if states.len() > 15 {
-        drop_at(pool, states, 0);
+        drop_oldest(pool, states);
     }
 }
