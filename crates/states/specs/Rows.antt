@@ -1,5 +1,5 @@
 -- The entries of states, and sums over them: how many name a number is one such sum.
-use Rattle.std.specs.Prelude.{◌≡◌, ℕ, ◌-◌, cond, List, [], ◌∷◌, map, length, drop, Some, None, sum_by, Option, nat_lt, slice_index}
+use Rattle.std.specs.Prelude.{◌≡◌, ℕ, ◌-◌, cond, List, [], ◌∷◌, map, length, drop, sum_by, nat_lt, slice_index}
 use Rattle.rows.specs.declared.entry.Entry.{Entry}
 use Rattle.rows.specs.declared.row.Row.{Row}
 use Rattle.pool.specs.Counts.{once}
@@ -31,11 +31,6 @@ weigh f rows = sum_by (sum_by f) rows
 
 abbrev pub weigh_all : (Entry → ℕ) → List Rows → ℕ
 weigh_all f ss = sum_by (weigh f) ss
-
--- and of a draft, if there is one
-abbrev pub weigh_draft : (Entry → ℕ) → Option Rows → ℕ
-weigh_draft f None = 0
-weigh_draft f (Some rows) = weigh f rows
 
 -- the states without the oldest, where there are more than 15
 abbrev pub newest : {X : Type 0} → List X → List X

@@ -4,8 +4,10 @@
 mod dropping;
 mod entries;
 mod holding;
+mod placing;
 mod state;
 
 pub use dropping::{drop_oldest, keep_newest};
 pub use holding::{hold_state, let_go_state};
+pub use placing::place_row;
 pub use state::State;
