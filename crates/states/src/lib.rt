@@ -6,6 +6,8 @@ mod entries;
 mod holding;
 mod placing;
 mod state;
+#[cfg(test)]
+mod tests;
 
 pub use dropping::{drop_oldest, keep_newest};
 pub use holding::{hold_state, let_go_state};
