@@ -15,7 +15,7 @@ entries_of r = r.entries.items
 
 -- the rows of a state
 abbrev pub contents : State → Rows
-contents s = map entries_of (s.rows)
+contents s = map entries_of s.rows
 
 -- five empty rows
 abbrev pub blank : Rows

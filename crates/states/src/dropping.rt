@@ -11,6 +11,9 @@ use frames::Frame;
 use pool::Pool;
 use stores::Store;
 
+// How many states stay as one more is to come.
+const NEWEST: usize = 15;
+
 // Drops the oldest state, if there is one.
 #[tactic(auto, using(crate::proofs::Sums::weigh_first))]
 pub fn drop_oldest<S: Store>(pool: &mut Pool<S>, states: &mut Vec<State>)
@@ -56,7 +59,7 @@ pub fn keep_newest<S: Store>(pool: &mut Pool<S>, states: &mut Vec<State>, keep: 
     ensures keeps { KeepsRight S.Kind.Frame S.Store.meaning pool.old pool.new }
 {
     drop_from(pool, states, keep);
-    if states.len() > 15 {
+    if states.len() > NEWEST {
         drop_oldest(pool, states);
     }
 }

@@ -10,7 +10,7 @@ use frames::Frame;
 use pool::Pool;
 use stores::Store;
 
-// Each entry of the state names its block once more.
+// Each entry of the state names its block once more. Counts are exact below 2 ^ 32.
 #[tactic(auto, using(crate::proofs::Sums::weigh_more))]
 pub fn hold_state<S: Store>(pool: &mut Pool<S>, state: &State)
     ensures store { pool.new.store ≡ pool.old.store }
@@ -24,7 +24,7 @@ pub fn hold_state<S: Store>(pool: &mut Pool<S>, state: &State)
     }
 }
 
-// No entry of the state names its block any more; a block that nothing names then is released.
+// The entries of the state name their blocks no more. A block whose count falls to 0 is released.
 #[tactic(auto, using(crate::proofs::Sums::weigh_more))]
 pub fn let_go_state<S: Store>(pool: &mut Pool<S>, state: &State)
     ensures kept { SameKept pool.old pool.new }

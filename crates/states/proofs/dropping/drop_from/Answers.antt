@@ -1,5 +1,4 @@
 use Rattle.std.proofs.Common.{rules, ◌≡◌, ◌∙◌, ◌++◌, [], ◌∷◌, length, sym, ap, take, vec_items, arith}
-use Rattle.std.specs.Option.{option_to_list}
 use Rattle.std.proofs.lemmas.List.{take-append-le, length-append}
 use Rattle.states.proofs.Sums.{weigh_last}
 use Rattle.states.proofs.dropping.drop_from.Goals as goal
@@ -10,14 +9,14 @@ loop-states-preserved g c =
     let told = c.let_go_state.ensures in
     let rest = vec_items c.pop.new.self in
     let last = c.unwrap-last.result in
-    let split : vec_items c.loop-states.states ≡ rest ++ last ∷ [] = c.pop.ensures.items ∙ ap (λ z. rest ++ option_to_list z) c.unwrap-last.ensures in
+    let split : vec_items c.loop-states.states ≡ rest ++ last ∷ [] = search rules in
     record {
       items = sym (ap (take c.args.keep) split ∙ take-append-le c.args.keep rest (last ∷ []) (omega (arith, ap length split, length-append rest (last ∷ []), c.len.ensures, c.loop-states-test.true))) ∙ inv.items;
-      capacity = c.pop.ensures.capacity ∙ inv.capacity;
+      capacity = search rules;
       kept = search rules;
-      len = told.len ∙ inv.len;
+      len = search rules;
       fewer = λ n. omega (arith, inv.fewer n, weigh_last n _ rest last split);
       counts = λ n. omega (arith, told.counts n, inv.counts n, inv.fewer n, weigh_last n _ rest last split);
       freed = search rules;
-      keeps = λ before. told.keeps (inv.keeps before);
+      keeps = search rules;
     }
