@@ -1,8 +1,7 @@
 // States that go, with all that only they name.
 ghost use Rattle.std.specs.Prelude.{◌≡◌, ℕ, ◌≤◌, map, take, drop, vec_len, vec_capacity};
-ghost use Rattle.pool.specs.Accounts.{counts_of, SameKept};
-ghost use Rattle.pool.specs.Freed.{Freed};
-ghost use Rattle.pool.specs.Kept.{KeepsRight};
+ghost use Rattle.pool.specs.Accounts.{counts_of};
+ghost use Rattle.states.specs.Frees.{Frees};
 ghost use Rattle.states.specs.Rows.{contents, newest, Shed};
 
 use crate::holding::let_go_state;
@@ -19,11 +18,8 @@ const NEWEST: usize = 15;
 pub fn drop_oldest<S: Store>(pool: &mut Pool<S>, states: &mut Vec<State>)
     ensures items { states.new.items ≡ drop 1 states.old.items }
     ensures capacity { vec_capacity states.new ≡ vec_capacity states.old }
-    ensures kept { SameKept pool.old pool.new }
-    ensures len { vec_len pool.new.accounts ≡ vec_len pool.old.accounts }
     ensures counts { (n : ℕ) → Shed (counts_of pool.old) (map contents states.old.items) (counts_of pool.new) (map contents states.new.items) n }
-    ensures freed { Freed (S.Store.meaning pool.old.store) (counts_of pool.old) (S.Store.meaning pool.new.store) (counts_of pool.new) }
-    ensures keeps { KeepsRight S.Kind.Frame S.Store.meaning pool.old pool.new }
+    ensures frees { Frees S.Kind.Frame S.Store.meaning pool.old pool.new }
 {
     if !states.is_empty() {
         let oldest = states.remove(0);
@@ -35,11 +31,8 @@ pub fn drop_oldest<S: Store>(pool: &mut Pool<S>, states: &mut Vec<State>)
 fn drop_from<S: Store>(pool: &mut Pool<S>, states: &mut Vec<State>, keep: usize)
     ensures items { states.new.items ≡ take keep states.old.items }
     ensures capacity { vec_capacity states.new ≡ vec_capacity states.old }
-    ensures kept { SameKept pool.old pool.new }
-    ensures len { vec_len pool.new.accounts ≡ vec_len pool.old.accounts }
     ensures counts { (n : ℕ) → Shed (counts_of pool.old) (map contents states.old.items) (counts_of pool.new) (map contents states.new.items) n }
-    ensures freed { Freed (S.Store.meaning pool.old.store) (counts_of pool.old) (S.Store.meaning pool.new.store) (counts_of pool.new) }
-    ensures keeps { KeepsRight S.Kind.Frame S.Store.meaning pool.old pool.new }
+    ensures frees { Frees S.Kind.Frame S.Store.meaning pool.old pool.new }
 {
     while states.len() > keep {
         let last = states.pop().unwrap();
@@ -52,11 +45,8 @@ pub fn keep_newest<S: Store>(pool: &mut Pool<S>, states: &mut Vec<State>, keep: 
     ensures items { states.new.items ≡ newest (take keep states.old.items) }
     ensures few { vec_len states.old ≤ 16 → vec_len states.new ≤ 15 }
     ensures capacity { vec_capacity states.new ≡ vec_capacity states.old }
-    ensures kept { SameKept pool.old pool.new }
-    ensures len { vec_len pool.new.accounts ≡ vec_len pool.old.accounts }
     ensures counts { (n : ℕ) → Shed (counts_of pool.old) (map contents states.old.items) (counts_of pool.new) (map contents states.new.items) n }
-    ensures freed { Freed (S.Store.meaning pool.old.store) (counts_of pool.old) (S.Store.meaning pool.new.store) (counts_of pool.new) }
-    ensures keeps { KeepsRight S.Kind.Frame S.Store.meaning pool.old pool.new }
+    ensures frees { Frees S.Kind.Frame S.Store.meaning pool.old pool.new }
 {
     drop_from(pool, states, keep);
     if states.len() > NEWEST {

@@ -60,8 +60,5 @@ fn row_copied(row: &Row, heap: Global) -> Result<Row, AllocError>
     ensures { IfOk result (λ r. entries_of r ≡ entries_of row.now) }
 {
     let entries = Vec::from_slice(heap, row.entries())?;
-    let Ok(copy) = Row::try_from(entries) else {
-        unreachable!();
-    };
-    Ok(copy)
+    Ok(Row::try_from(entries).unwrap())
 }

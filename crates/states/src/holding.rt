@@ -1,8 +1,8 @@
 // The entries of a whole state, held and let go.
 ghost use Rattle.std.specs.Prelude.{◌≡◌, ℕ, ◌+◌, ◌-◌, ◌^◌, ◌<◌, vec_len, slice_index};
 ghost use Rattle.pool.specs.Accounts.{counts_of, SameKept};
-ghost use Rattle.pool.specs.Freed.{Freed};
 ghost use Rattle.pool.specs.Kept.{KeepsRight};
+ghost use Rattle.states.specs.Frees.{Frees};
 ghost use Rattle.states.specs.Rows.{contents, names, weigh};
 
 use crate::state::State;
@@ -25,13 +25,11 @@ pub fn hold_state<S: Store>(pool: &mut Pool<S>, state: &State)
 }
 
 // The entries of the state name their blocks no more. A block whose count falls to 0 is released.
+// (Alike in form to the one above: each goes over the rows by its own call of a pool, and promises what that does.)
 #[tactic(auto, using(crate::proofs::Sums::weigh_more))]
 pub fn let_go_state<S: Store>(pool: &mut Pool<S>, state: &State)
-    ensures kept { SameKept pool.old pool.new }
-    ensures len { vec_len pool.new.accounts ≡ vec_len pool.old.accounts }
     ensures counts { (n : ℕ) → slice_index (counts_of pool.new) n ≡ slice_index (counts_of pool.old) n - weigh (names n) (contents state.now) }
-    ensures freed { Freed (S.Store.meaning pool.old.store) (counts_of pool.old) (S.Store.meaning pool.new.store) (counts_of pool.new) }
-    ensures keeps { KeepsRight S.Kind.Frame S.Store.meaning pool.old pool.new }
+    ensures frees { Frees S.Kind.Frame S.Store.meaning pool.old pool.new }
 {
     for row in &state.rows {
         pool.let_go(row.entries());

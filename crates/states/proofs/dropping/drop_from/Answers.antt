@@ -13,10 +13,7 @@ loop-states-preserved g c =
     record {
       items = sym (ap (take c.args.keep) split ∙ take-append-le c.args.keep rest (last ∷ []) (omega (arith, ap length split, length-append rest (last ∷ []), c.len.ensures, c.loop-states-test.true))) ∙ inv.items;
       capacity = search rules;
-      kept = search rules;
-      len = search rules;
       fewer = λ n. omega (arith, inv.fewer n, weigh_last n _ rest last split);
       counts = λ n. omega (arith, told.counts n, inv.counts n, inv.fewer n, weigh_last n _ rest last split);
-      freed = search rules;
-      keeps = search rules;
+      frees = search rules;
     }

@@ -1,7 +1,6 @@
 use Rattle.std.proofs.Common.{◌≡◌, ℕ, ◌≤◌, map, take, vec_len, vec_capacity, vec_items}
-use Rattle.pool.specs.Accounts.{counts_of, SameKept}
-use Rattle.pool.specs.Freed.{Freed}
-use Rattle.pool.specs.Kept.{KeepsRight}
+use Rattle.pool.specs.Accounts.{counts_of}
+use Rattle.states.specs.Frees.{Frees}
 use Rattle.states.specs.Rows.{contents, names, weigh_all, Shed}
 use Rattle.states.proofs.dropping.drop_from.Given as goal
 
@@ -9,12 +8,9 @@ abbrev pub invariant-loop-states : goal.invariant-loop-states
 invariant-loop-states g l = record {
   items : take l.keep (vec_items l.states) ≡ take l.keep (vec_items l.initial.states);
   capacity : vec_capacity l.states ≡ vec_capacity l.initial.states;
-  kept : SameKept l.initial.pool l.pool;
-  len : vec_len l.pool.accounts ≡ vec_len l.initial.pool.accounts;
   fewer : (n : ℕ) → weigh_all (names n) (map contents (vec_items l.states)) ≤ weigh_all (names n) (map contents (vec_items l.initial.states));
   counts : (n : ℕ) → Shed (counts_of l.initial.pool) (map contents (vec_items l.initial.states)) (counts_of l.pool) (map contents (vec_items l.states)) n;
-  freed : Freed (g.S.Store.meaning l.initial.pool.store) (counts_of l.initial.pool) (g.S.Store.meaning l.pool.store) (counts_of l.pool);
-  keeps : KeepsRight g.S.Kind.Frame g.S.Store.meaning l.initial.pool l.pool;
+  frees : Frees g.S.Kind.Frame g.S.Store.meaning l.initial.pool l.pool;
 }
 
 abbrev pub decreases-loop-states : goal.decreases-loop-states
