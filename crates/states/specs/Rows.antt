@@ -1,5 +1,5 @@
 -- The entries of states, and sums over them: how many name a number is one such sum.
-use Rattle.std.specs.Prelude.{◌≡◌, ℕ, ◌-◌, cond, List, [], ◌∷◌, map, length, drop, sum_by, nat_lt, slice_index}
+use Rattle.std.specs.Prelude.{ℕ, cond, List, [], ◌∷◌, map, length, drop, sum_by, nat_lt}
 use Rattle.rows.specs.declared.entry.Entry.{Entry}
 use Rattle.rows.specs.declared.row.Row.{Row}
 use Rattle.pool.specs.Counts.{once}
@@ -35,7 +35,3 @@ weigh_all f ss = sum_by (weigh f) ss
 -- the states without the oldest, where there are more than 15
 abbrev pub newest : {X : Type 0} → List X → List X
 newest xs = cond (nat_lt 15 (length xs)) (drop 1 xs) xs
-
--- the counts `new` are the counts `old` less what the states that went, ss but for ts, named
-abbrev pub Shed : List ℕ → List Rows → List ℕ → List Rows → (n : ℕ) → Type 0
-Shed old ss new ts n = slice_index new n ≡ slice_index old n - (weigh_all (names n) ss - weigh_all (names n) ts)

@@ -1,8 +1,7 @@
 // States that go, with all that only they name.
-ghost use Rattle.std.specs.Prelude.{◌≡◌, ℕ, ◌≤◌, map, take, drop, vec_len, vec_capacity};
-ghost use Rattle.pool.specs.Accounts.{counts_of};
-ghost use Rattle.states.specs.Frees.{Frees};
-ghost use Rattle.states.specs.Rows.{contents, newest, Shed};
+ghost use Rattle.std.specs.Prelude.{◌≡◌, ◌≤◌, take, drop, vec_len, vec_capacity};
+ghost use Rattle.states.specs.Frees.{Frees, Shed};
+ghost use Rattle.states.specs.Rows.{newest};
 
 use crate::holding::let_go_state;
 use crate::state::State;
@@ -18,7 +17,7 @@ const NEWEST: usize = 15;
 pub fn drop_oldest<S: Store>(pool: &mut Pool<S>, states: &mut Vec<State>)
     ensures items { states.new.items ≡ drop 1 states.old.items }
     ensures capacity { vec_capacity states.new ≡ vec_capacity states.old }
-    ensures counts { (n : ℕ) → Shed (counts_of pool.old) (map contents states.old.items) (counts_of pool.new) (map contents states.new.items) n }
+    ensures counts { Shed pool.old states.old.items pool.new states.new.items }
     ensures frees { Frees S.Kind.Frame S.Store.meaning pool.old pool.new }
 {
     if !states.is_empty() {
@@ -31,7 +30,7 @@ pub fn drop_oldest<S: Store>(pool: &mut Pool<S>, states: &mut Vec<State>)
 fn drop_from<S: Store>(pool: &mut Pool<S>, states: &mut Vec<State>, keep: usize)
     ensures items { states.new.items ≡ take keep states.old.items }
     ensures capacity { vec_capacity states.new ≡ vec_capacity states.old }
-    ensures counts { (n : ℕ) → Shed (counts_of pool.old) (map contents states.old.items) (counts_of pool.new) (map contents states.new.items) n }
+    ensures counts { Shed pool.old states.old.items pool.new states.new.items }
     ensures frees { Frees S.Kind.Frame S.Store.meaning pool.old pool.new }
 {
     while states.len() > keep {
@@ -45,7 +44,7 @@ pub fn keep_newest<S: Store>(pool: &mut Pool<S>, states: &mut Vec<State>, keep: 
     ensures items { states.new.items ≡ newest (take keep states.old.items) }
     ensures few { vec_len states.old ≤ 16 → vec_len states.new ≤ 15 }
     ensures capacity { vec_capacity states.new ≡ vec_capacity states.old }
-    ensures counts { (n : ℕ) → Shed (counts_of pool.old) (map contents states.old.items) (counts_of pool.new) (map contents states.new.items) n }
+    ensures counts { Shed pool.old states.old.items pool.new states.new.items }
     ensures frees { Frees S.Kind.Frame S.Store.meaning pool.old pool.new }
 {
     drop_from(pool, states, keep);
