@@ -6,13 +6,8 @@ use Rattle.std.proofs.lemmas.List.{map-set, length-map, get_or-map, get_or-set_s
 use Rattle.std.proofs.lemmas.Bool.Decides.{nat_tests}
 use Rattle.measures.specs.declared.summary.Summary.{Summary}
 use Rattle.pool.specs.declared.account.Account.{Account}
+use Rattle.pool.specs.Accounts.{counts, kepts}
 use Rattle.pool.specs.Counts.{once}
-
-abbrev pub counts : List Account → List ℕ
-counts accounts = map (λ (x : Account). x.count) accounts
-
-abbrev pub kepts : List Account → List Summary
-kepts accounts = map (λ (x : Account). x.kept) accounts
 
 -- one more at i, where it fits
 one_more : (xs : List ℕ) (i c n : ℕ) → i < length xs → get_or xs i 0 ≡ c → get_or xs n 0 + once n i < 2 ^ 32 → get_or (set xs i (min (c + 1) (2 ^ 32 - 1))) n 0 ≡ get_or xs n 0 + once n i

@@ -8,7 +8,8 @@ use Rattle.stores.specs.Meaning.{Meaning, capacity, block, holding}
 use Rattle.stores.specs.Promise.{Releases}
 use Rattle.pool.specs.declared.account.Account.{Account}
 use Rattle.pool.specs.Freed.{Freed, left}
-use Rattle.pool.proofs.Accounts.{counts, Lowered}
+use Rattle.pool.specs.Accounts.{counts}
+use Rattle.pool.proofs.Accounts.{Lowered}
 
 module _ {F : Type 0} where
   left_keeps : (old new : ℕ) (b : List F) → (new ≡ 0 → old ≡ 0) → left old new b ≡ b

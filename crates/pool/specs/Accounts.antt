@@ -10,14 +10,21 @@ use Rattle.pool.specs.declared.pool.Pool.{Pool}
 abbrev pub no_account : Account
 no_account = record { count = 0; kept = no_summary }
 
+-- the counts of accounts, and the measures that they keep
+abbrev pub counts : List Account → List ℕ
+counts accounts = map (λ (a : Account). a.count) accounts
+
+abbrev pub kepts : List Account → List Summary
+kepts accounts = map (λ (a : Account). a.kept) accounts
+
 module _ {S : Type 0} where
   -- how many entries name each number
   abbrev pub counts_of : Pool S → List ℕ
-  counts_of pool = map (λ (a : Account). a.count) pool.accounts.items
+  counts_of pool = counts pool.accounts.items
 
   -- the measures that are kept of each number
   abbrev pub kept_of : Pool S → List Summary
-  kept_of pool = map (λ (a : Account). a.kept) pool.accounts.items
+  kept_of pool = kepts pool.accounts.items
 
   -- the counts are as they were, and the accounts lie where they lay, with the same room
   abbrev pub SameCounts : Pool S → Pool S → Type 0

@@ -1,7 +1,6 @@
 pub mod Walk
 pub mod Places
 pub mod Breaking
-pub mod Tries
 pub mod Reading
 pub mod Spans
 pub mod Gathers

@@ -1,5 +1,5 @@
 // The rows of a state: five empty ones, copies, and one in the place of another.
-ghost use Rattle.std.specs.Prelude.{◌≡◌, ◌<◌, [], IfOk, slice_index_or, slice_set};
+ghost use Rattle.std.specs.Prelude.{◌≡◌, ◌<◌, ◌≤◌, ◌≢◌, [], length, IfOk, OnErr, slice_index_or, slice_set};
 ghost use Rattle.states.specs.Rows.{contents, entries_of, blank};
 
 use crate::state::State;
@@ -22,9 +22,10 @@ impl State {
         }
     }
 
-    // The same entries in rows of their own.
+    // The same entries in rows of their own. Want of memory is the only refusal, and five empty rows want none.
     pub fn copied(&self, heap: Global) -> Result<State, AllocError>
-        ensures { IfOk result (λ s. contents s ≡ contents self.now) }
+        ensures rows { IfOk result (λ s. contents s ≡ contents self.now) }
+        ensures refused { OnErr result (contents self.now ≢ blank) }
     {
         let [a, b, c, d, e] = &self.rows;
         Ok(State {
@@ -55,10 +56,14 @@ impl State {
     }
 }
 
-// The same entries in a row of its own.
+// The same entries in a row of its own; an empty one wants no memory.
 fn row_copied(row: &Row, heap: Global) -> Result<Row, AllocError>
-    ensures { IfOk result (λ r. entries_of r ≡ entries_of row.now) }
+    ensures row { IfOk result (λ r. entries_of r ≡ entries_of row.now) }
+    ensures refused { OnErr result (1 ≤ length (entries_of row.now)) }
 {
+    if row.entries().is_empty() {
+        return Ok(Row::new(heap));
+    }
     let entries = Vec::from_slice(heap, row.entries())?;
     Ok(Row::try_from(entries).unwrap())
 }
