@@ -1,6 +1,6 @@
 // The take as a row of counted blocks: put, held, read across a border and let go; and a put that fails.
 use crate::blocks::{Blocks, SPARE};
-use crate::storing::{NO_ROOM, sameness};
+use crate::storing::{NO_ROOM, same, sameness};
 use anyhow::Context;
 use frames::Frame;
 use pool::{Cut, Pool, PutFault};
@@ -10,7 +10,7 @@ use slot_stores::ImageStore;
 use std::alloc::{AllocError, Global};
 use stores::{Store, Tripping};
 
-impl<'a, K: Frame + PartialEq> Blocks<'a, K> {
+impl<'a, K: Frame> Blocks<'a, K> {
     // A pool over a new image, of which the put or read `trip_at` fails.
     fn pool(
         &self,
@@ -79,7 +79,8 @@ impl<'a, K: Frame + PartialEq> Blocks<'a, K> {
         let part = &behind[..behind.len().min(4)];
         let mut buffer = Vec::from_slice(rt.alloc(), &self.frames[..part.len()])?;
         let done = read_row(store, row, start, buffer.as_mut_slice()).is_ok();
-        let told = sameness(done && buffer.as_slice() == part);
+        let alike = buffer.iter().zip(part.iter()).all(|(a, b)| same(*a, *b));
+        let told = sameness(done && alike);
         let count = part.len();
         println!(rt; "frames {start} and on, {count} of them, read across a border: {told}")?;
         Ok(())

@@ -6,11 +6,7 @@ use measures::{clip_run_of, energy_of, extent_of};
 use takes::{Kind, Take, read_take};
 
 // Reads the take and prints all that is told of it.
-pub fn report<K: Frame + PartialEq>(
-    rt: &HostRuntime,
-    kind: Option<Kind>,
-    text: &[u8],
-) -> anyhow::Result<()> {
+pub fn report<K: Frame>(rt: &HostRuntime, kind: Option<Kind>, text: &[u8]) -> anyhow::Result<()> {
     let take: Take<K> = read_take(rt.alloc(), text)?;
     for number in take.unread.as_slice() {
         println!(rt; "line {number} is no frame")?;
@@ -30,7 +26,7 @@ pub fn report<K: Frame + PartialEq>(
 }
 
 // The take in blocks: in an image, as a row that is mended, and as a row of counted blocks.
-fn blocks<K: Frame + PartialEq>(rt: &HostRuntime, frames: &[K]) -> anyhow::Result<()> {
+fn blocks<K: Frame>(rt: &HostRuntime, frames: &[K]) -> anyhow::Result<()> {
     let blocks = Blocks::of(rt.alloc(), frames)?;
     blocks.keep(rt)?;
     blocks.plan(rt)?;

@@ -7,7 +7,7 @@ module _ {K V : Type 0} (worth : K → V) (join : V → V → V) (neutral : V) (
   abbrev all : List K → V
   all xs = measured worth join neutral xs
 
-  measured_append : (xs ys : List K) → all (xs ++ ys) ≡ join (all xs) (all ys)
+  pub measured_append : (xs ys : List K) → all (xs ++ ys) ≡ join (all xs) (all ys)
   measured_append [] ys = sym (laws.left (all ys))
   measured_append (x ∷ xs) ys = ap (join (worth x)) (measured_append xs ys) ∙ sym (laws.assoc (worth x) (all xs) (all ys))
 

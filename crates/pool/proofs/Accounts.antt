@@ -14,7 +14,7 @@ one_more : (xs : List ℕ) (i c n : ℕ) → i < length xs → get_or xs i 0 ≡
 one_more xs i c n here is fits = grind (arith, nat_tests, get_or-set_same xs i (min (c + 1) (2 ^ 32 - 1)) 0 here, get_or-set_other xs i n (min (c + 1) (2 ^ 32 - 1)) 0)
 
 -- one less at i
-one_less : (xs : List ℕ) (i left n : ℕ) → i < length xs → get_or xs i 0 ≡ left + 1 → get_or (set xs i left) n 0 ≡ get_or xs n 0 - once n i
+pub one_less : (xs : List ℕ) (i left n : ℕ) → i < length xs → get_or xs i 0 ≡ left + 1 → get_or (set xs i left) n 0 ≡ get_or xs n 0 - once n i
 one_less xs i left n here is = grind (arith, nat_tests, get_or-set_same xs i left 0 here, get_or-set_other xs i n left 0)
 
 -- from one list of accounts to another, one entry less names the number i

@@ -12,10 +12,10 @@ use Rattle.pool.specs.Accounts.{counts}
 use Rattle.pool.proofs.Accounts.{Lowered}
 
 module _ {F : Type 0} where
-  left_keeps : (old new : ℕ) (b : List F) → (new ≡ 0 → old ≡ 0) → left old new b ≡ b
+  pub left_keeps : (old new : ℕ) (b : List F) → (new ≡ 0 → old ≡ 0) → left old new b ≡ b
   left_keeps old new b h = grind (arith, nat_tests)
 
-  left_frees : (old new : ℕ) (b : List F) → 0 < old → new ≡ 0 → left old new b ≡ []
+  pub left_frees : (old new : ℕ) (b : List F) → 0 < old → new ≡ 0 → left old new b ≡ []
   left_frees old new b h e = grind (arith, nat_tests)
 
   -- a store with one block less
@@ -26,7 +26,7 @@ module _ {F : Type 0} where
     pub gone : block m' i ≡ []
     pub others : (n : ℕ) → (n ≡ i → ⊥) → block m' n ≡ block m n
 
-  emptied_here : (bs : List (List F)) (i : ℕ) → get_or (set bs i []) i [] ≡ []
+  pub emptied_here : (bs : List (List F)) (i : ℕ) → get_or (set bs i []) i [] ≡ []
   emptied_here bs i =
       ⊎_elim (λ (l : i < length bs). get_or-set_same bs i [] [] l) (λ (l : length bs ≤ i). get_or_past (set bs i []) i [] (rw length-set l)) (cases_lt i (length bs))
 

@@ -22,7 +22,7 @@ module _ {F : Type 0} where
   placed_push (one bs q k full below unused rest) p n some here free = one bs q k full below unused (placed_push rest p n some here free)
 
   -- the last number is taken out first
-  cleared_push : (bs : List (List F)) (ns : List ℕ) (n : ℕ) → cleared bs (ns ++ n ∷ []) ≡ cleared (set bs n []) ns
+  pub cleared_push : (bs : List (List F)) (ns : List ℕ) (n : ℕ) → cleared bs (ns ++ n ∷ []) ≡ cleared (set bs n []) ns
   cleared_push bs [] n = refl
   cleared_push bs (k ∷ ns) n = ap (λ z. set z k []) (cleared_push bs ns n)
 
@@ -148,7 +148,7 @@ module _ {F : Type 0} where
     }
 
   -- a release makes a number free, whatever it answers
-  released : {U : Type 0} (m : Meaning F) (n : ℕ) (r : Result U StoreFault) (m' : Meaning F) → Releases m n r m' → m' ≡ holding m n []
+  pub released : {U : Type 0} (m : Meaning F) (n : ℕ) (r : Result U StoreFault) (m' : Meaning F) → Releases m n r m' → m' ≡ holding m n []
   released m n (Ok u) m' h = h.1
   released m n (Err f) m' h =
       let at : List (List F) → Meaning F = λ bs. record { limit = m.limit; ailing = m.ailing; blocks = bs } in

@@ -23,7 +23,7 @@ module _ {F : Type 0} where
   }
 
   module _ (S : Type 0) (m m' : Meaning F) (es : List Entry) (start : ℕ) (old new : List F) (small : start + length old < 2 ^ 64) where
-    stops : (f : ReadFault) → Breaks (entries {S = S}) m es start old f new m' → Stops m es start old f new m'
+    pub stops : (f : ReadFault) → Breaks (entries {S = S}) m es start old f new m' → Stops m es start old f new m'
     stops f b = record {
       before = b.before;
       entry = b.part;

@@ -67,6 +67,7 @@ pub fn mend(heap: Global, limit: usize, pieces: &[Piece]) -> Result<Vec<Piece>, 
 }
 
 // How many of the pieces are no old block: of a mended list, how many new blocks it asks for.
+#[tactic(auto, using(crate::proofs::Sums::counted))]
 pub fn new_blocks(pieces: &[Piece]) -> usize
     ensures { result ≡ count_of_new pieces.now }
 {

@@ -35,6 +35,7 @@ impl Row {
     }
 
     // How many frames the blocks have, or the greatest usize if they have more.
+    #[tactic(auto, using(crate::proofs::Sums::held_frames, crate::proofs::Sums::total_frames))]
     pub fn len(&self) -> usize
         ensures { result ≡ min (frames (wholes self.now.entries.items)) (2 ^ 64 - 1) }
     {

@@ -33,7 +33,7 @@ impl<K: Frame> ImageStore<K> {
         // By number, since a proof does not learn what is written through `chunks_exact_mut`, as was tried.
         for number in 0..store.slots() {
             let at = store.slot_start(number);
-            store.bytes[at..at + 4].fill(0);
+            store.bytes[at..at + 4].copy_from_slice(&[0; 4]);
         }
         store
     }

@@ -60,7 +60,7 @@ impl Frame for Stereo {
     }
 
     fn read_bytes(bytes: &[u8]) -> Option<Stereo> {
-        let (left, right) = bytes.split_at_checked(2)?;
+        let (left, right) = bytes.as_array::<4>()?.split_at(2);
         Some(Stereo {
             left: Mono::read_bytes(left)?,
             right: Mono::read_bytes(right)?,
@@ -75,7 +75,7 @@ impl Frame for Stereo {
     }
 
     fn read_line(text: &[u8]) -> Option<Stereo> {
-        let (left, right) = text.split_at_checked(4)?;
+        let (left, right) = text.as_array::<8>()?.split_at(4);
         Some(Stereo {
             left: Mono::read_line(left)?,
             right: Mono::read_line(right)?,

@@ -1,6 +1,4 @@
-use Rattle.std.proofs.Common.{◌≡◌, ◌++◌, option_to_list, OnOk, vec_items, sym, ap, ◌∙◌, subst, arith, rules}
-use Rattle.std.proofs.lemmas.List.{map-id}
-use Rattle.std.proofs.lemmas.Iterator.Adapters.{fact_from_extend, YieldsList-from_once}
+use Rattle.std.proofs.Common.{◌≡◌, vec_items, sym, ap, subst, arith, rules}
 use Rattle.std.proofs.lemmas.Grind.{common_steps}
 use Rattle.rows.specs.Pieces.{count_of_new, NoneEmpty}
 use Rattle.rows.specs.Cutting.{cut, AddsUp, OwnOffsets, InsideWhole, BordersWhole}
@@ -9,14 +7,13 @@ use Rattle.rows.proofs.Parts.{cut_frames, cut_loose, cut_filled}
 use Rattle.rows.proofs.Places.{cut_places, cut_inside}
 use Rattle.rows.proofs.Borders.{cut_borders}
 use Rattle.rows.proofs.cutting.pieces_of.Goals as goal
+use Rattle.rows.proofs.cutting.pieces_of.Goals.{in-Some+in_ok-push, in_default}
 
 pub loop-entry-preserved : goal.loop-entry-preserved
 loop-entry-preserved c =
-    let more : OnOk c.extend.result (vec_items c.extend.new.self ≡ vec_items c.loop-entry.out ++ option_to_list c.part.result) =
-    fact_from_extend (λ x. x) c.extend.result c.extend.ensures.ran (λ it b. YieldsList-from_once c.part.result b.0) (λ xs e h. h.0 ∙ ap (λ l. vec_items c.loop-entry.out ++ l) (sym (map-id xs) ∙ e))
-    in
     cut_again c.args.row.now c.loop-entry.entry-index _ c.loop-entry.start c.loop-entry.end _ _ c.part.result (vec_items c.loop-entry.out) _ _ c.loop-entry-test.true c.part.ensures c.saturating_sub-start.ensures c.saturating_sub-end.ensures
-    (search rules) c.loop-entry.invariant
+    (elim c.match-part.branch [ in-Some+in_ok-push w ↦ search rules | in_default w ↦ search rules ])
+    c.loop-entry.invariant
 
 pub returns : goal.returns
 returns c =

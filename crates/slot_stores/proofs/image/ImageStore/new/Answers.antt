@@ -21,11 +21,11 @@ loop-number-preserved g c =
     let size = slot_bytes g.K.Frame.wide c.args.limit in
     let at = c.slot_start-at.result in
     let eq : at ≡ i * size = c.slot_start-at.ensures.value ∙ ap (λ l. i * slot_bytes g.K.Frame.wide l) c.loop-number.invariant.limit in
-    let zeros : c.fill.new.self ≡ no_length = search rules in
+    let zeros : c.copy_from_slice.new.self ≡ no_length = search rules in
     record {
       limit = c.loop-number.invariant.limit;
       end = c.loop-number.invariant.end;
-      bytes = written_over c.loop-number.store.bytes at (at + 4 - at) 4 c.deref_mut.result.now c.fill.new.self no_length c.deref_mut.ensures.value c.deref_mut.ensures.len zeros (omega arith) refl (omega (arith, c.slot_start-at.ensures.within)) ∙
+      bytes = written_over c.loop-number.store.bytes at (at + 4 - at) 4 c.deref_mut.result.now c.copy_from_slice.new.self no_length c.deref_mut.ensures.value c.deref_mut.ensures.len zeros (omega arith) refl (omega (arith, c.slot_start-at.ensures.within)) ∙
           ap (λ l. paste l at no_length 4) c.loop-number.invariant.bytes ∙ ap (λ k. paste (cleared xs size i) k no_length 4) eq ∙ ap (cleared xs size) (sym (add-one i));
     }
 

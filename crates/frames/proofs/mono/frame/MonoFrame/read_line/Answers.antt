@@ -9,10 +9,10 @@ four_digits : (text : List ℕ) (n : ℕ) → length text ≡ 4 → hex_number 0
 four_digits text n four read = subst (λ k. n < 16 ^ k) four (read_spelled text n read).0
 
 pub overflow_cast-bits : goal.overflow_cast-bits
-overflow_cast-bits c = record { fits = four_digits c.in_ok-as_array.field-0.now c.in_ok-bits.bits (search rules) (search rules) }
+overflow_cast-bits c = record { fits = four_digits c.args.text.now c.in_ok-bits.bits (search rules) (search rules) }
 
 pub returns : goal.returns
 returns c =
-    let small = four_digits c.in_ok-as_array.field-0.now c.in_ok-bits.bits (search rules) (search rules) in
+    let small = four_digits c.args.text.now c.in_ok-bits.bits (search rules) (search rules) in
     let same = mono_cast c.new.result _ _ small c.new.ensures c.cast_signed.ensures in
     search rules
