@@ -40,7 +40,7 @@ pub fn pieces_of(heap: Global, row: &[Entry], span: Range<usize>) -> Result<Vec<
     let mut start = span.start;
     let mut end = span.end;
     for entry in row {
-        // By hand: an `extend` by what there is takes half as long again.
+        // By hand: an `extend` by what there is takes half as long again, or more.
         if let Some(piece) = part(*entry, start..end) {
             out.push(piece)?;
         }
