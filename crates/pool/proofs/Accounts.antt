@@ -1,5 +1,5 @@
 -- One account written over another, in the list of counts and in the list of measures. Assumes nothing.
-use Rattle.std.proofs.Common.{◌≡◌, ℕ, ◌+◌, ◌-◌, ◌^◌, ◌<◌, ◌≤◌, List, length, min, map, get_or, set, sym, ap, ◌∙◌, arith}
+use Rattle.std.proofs.Common.{◌≡◌, ℕ, ◌+◌, ◌-◌, ◌^◌, ◌<◌, ◌≤◌, List, length, min, get_or, set, sym, ap, ◌∙◌, arith}
 use Rattle.std.specs.List.{HoldsAt}
 use Rattle.std.proofs.Math.Seq.{map-set_same}
 use Rattle.std.proofs.lemmas.List.{map-set, length-map, get_or-map, get_or-set_same, get_or-set_other}
@@ -39,8 +39,8 @@ module _ (accounts : List Account) (i : ℕ) (a : Account) (item : (i < length a
   there : i < length (counts accounts)
   there = omega (arith, item.0, length-map accounts (λ (x : Account). x.count))
 
-  pub raised : (n : ℕ) → get_or (counts accounts) n 0 + once n i < 2 ^ 32 → get_or (counts (set accounts i (record { count = min (a.count + 1) (2 ^ 32 - 1); kept = a.kept }))) n 0 ≡ get_or (counts accounts) n 0 + once n i
-  raised n fits = rw map-set (one_more (counts accounts) i a.count n there count_there fits)
+  pub raised : (n more : ℕ) → more ≡ min (a.count + 1) (2 ^ 32 - 1) → get_or (counts accounts) n 0 + once n i < 2 ^ 32 → get_or (counts (set accounts i (record { count = more; kept = a.kept }))) n 0 ≡ get_or (counts accounts) n 0 + once n i
+  raised n more is fits = rw (is, map-set) (one_more (counts accounts) i a.count n there count_there fits)
 
   pub lowered : (left : ℕ) → (1 ≤ a.count) × (left ≡ a.count - 1) → Lowered accounts (set accounts i (record { count = left; kept = a.kept })) i left
   lowered left fall =
